@@ -331,7 +331,7 @@ def said_by(program, room, before, after):
             os.makedirs(os.path.dirname(at), exist_ok=True)
             with open(at, "w") as file:
                 file.write(text)
-    run = subprocess.run([program, "check", "new", "--base", "old", "--format", "json"], cwd=room,
+    run = subprocess.run([program, "check", "new", "--base", "old", "--profile", "whole-numbers", "--format", "json"], cwd=room,
                          stdout=subprocess.PIPE, stderr=subprocess.PIPE)
     if run.returncode not in (0, 1):
         raise ValueError("status %d: %s" % (run.returncode, run.stderr.decode()))

@@ -2,7 +2,8 @@
 
 A list edits ten files at random: five of schemas and five of documents. The definitions that a file may
 have meet each other: second definitions of a name, extensions whose type comes later or goes, roots that
-move between files, types that begin to implement an interface, fragments that spread each other.
+move between files, types that begin to implement an interface, fragments that spread each other. Under the
+profile october-2021 there are also Float, subscriptions, and schema files of more than 65,536 bytes.
 """
 
 import random
@@ -82,6 +83,77 @@ USUAL = {
 
 FILES = sorted(USUAL)
 
+# What files have besides, under october-2021.
+OCTOBER = {
+    ("schema", "s0"): [
+        "type Query { a: Float b: String n: N q: Query u: U e: E }",
+        "schema { query: Query subscription: S } type Query { a: Int b: String n: N q: Query u: U e: E }",
+        "type Query { a: Float! b: String n: N q: Query u: U e: E } type Subscription { a: Float q: Query }",
+    ],
+    ("schema", "s2"): [
+        "union U = C | D type D { c: C! d: D e: [E!] a: Float } scalar W",
+    ],
+    ("schema", "s3"): [
+        "enum E { ONE TWO } input P { a: Float! = 0.5 b: [Float!] = [1, 2.5] p: P }",
+        "enum E { ONE TWO } input P { a: Int f: Float = \"1\" } type S { n: N s: Float }",
+    ],
+    ("schema", "s4"): [
+        "extend type Query { c: C d(p: P): D ax(x: Float = 1.5): Float }\n"
+        "type Subscription { s(x: Float): Float c: C }",
+        "extend type Query { c: C d(p: P): D ax(x: Float!): Int } type Subscription { s(x: Int): Int c: C! }",
+        "extend schema { subscription: C } extend type Query { c: C d(p: P): D }",
+    ],
+    ("documents", "d0"): [
+        "query A { a ax(x: 0.5) }",
+        "subscription A { s(x: 1.5) }",
+    ],
+    ("documents", "d1"): [
+        "subscription B($x: Float = 0.5) { s(x: $x) }",
+        "query B($x: Float) { ax(x: $x) d(p: { a: 1e400 }) { e } }",
+        "subscription B { c { ...G1 } }",
+    ],
+    ("documents", "d3"): [
+        "subscription D { ...F1 ...S1 } fragment S1 on Subscription { s c { id } }",
+        "subscription D { ...S1 } fragment S1 on Subscription { c { ...G2 } }",
+    ],
+}
+
+SCHEMA_OF_OCTOBER = """
+scalar Float
+extend scalar Float @on
+type Float { a: Int }
+type Subscription { s: Float c: C }
+extend type Subscription { n: N }
+extend schema { subscription: D }
+input P { a: Float = 1e400 }
+directive @on(x: Float = 0.5) on FIELD | SCALAR
+scalar W @on(x: 1.0)
+type F { s: W }
+interface N { id: ID f: Float }
+""".strip().split("\n")
+
+DOCUMENTS_OF_OCTOBER = """
+subscription T { s c { id } }
+subscription T { __typename }
+subscription { s ...S1 }
+fragment S1 on Subscription { s }
+fragment F1 on Subscription { c { id } }
+query E($f: Float!) { ax(x: $f) }
+""".strip().split("\n")
+
+# More than 65,536 bytes of types that nothing else names.
+MANY_TYPES = "\n" + "\n".join("type Many%d { a: Float b(x: Float = %d.5): [Many%d!] c: String }" % (at, at, at)
+                              for at in range(1200))
+assert len(MANY_TYPES) > 65536
+
+
+def take_october():
+    """Lets files have what october-2021 has besides."""
+    for file, texts in OCTOBER.items():
+        USUAL[file] += texts
+    SCHEMA.extend(SCHEMA_OF_OCTOBER)
+    DOCUMENTS.extend(DOCUMENTS_OF_OCTOBER)
+
 # Definitions that may be in any file, and are at fault more often.
 SCHEMA = """
 type Query { a: Int b: String n: N q: Query }
@@ -150,9 +222,10 @@ def request(method, target, body=""):
     return head.encode() + body
 
 
-def answers(program, requests):
-    """The status and the body of each answer of a new service."""
-    run = subprocess.run([program, "pipe"], input=b"".join(requests), stdout=subprocess.PIPE)
+def answers(program, requests, profile="whole-numbers"):
+    """The status and the body of each answer of a new service of this profile."""
+    words = [program, "pipe", "--profile", profile]
+    run = subprocess.run(words, input=b"".join(requests), stdout=subprocess.PIPE)
     rest, found = run.stdout, []
     while rest:
         head, _, rest = rest.partition(b"\r\n\r\n")
@@ -179,8 +252,9 @@ def without_revision(answer):
     return status, body
 
 
-def text_for(generator, file):
-    """A text for a file: mostly one of its usual ones, else definitions that may be in any file."""
+def text_for(generator, file, profile="whole-numbers"):
+    """A text for a file: mostly one of its usual ones, else definitions that may be in any file. Under
+    october-2021 a schema file is large at times."""
     chance = generator.random()
     if chance < 0.05:
         return generator.choice(REFUSED)
@@ -188,20 +262,23 @@ def text_for(generator, file):
     if chance > 0.8:
         pool = SCHEMA if file[0] == "schema" else DOCUMENTS
         texts = generator.sample(pool, generator.randint(0, 2)) + texts[:generator.randint(0, 1)]
-    return generator.choice(["\n", " ", "\n\n# moved\n"]).join([""] + texts)
+    text = generator.choice(["\n", " ", "\n\n# moved\n"]).join([""] + texts)
+    if profile == "october-2021" and file == ("schema", "s2") and generator.random() < 0.3:
+        text += MANY_TYPES
+    return text
 
 
-def edit_of(generator):
+def edit_of(generator, profile):
     """An edit: its file, and its text, or None for a removal."""
     file = generator.choice(FILES)
-    return file, None if generator.random() < 0.1 else text_for(generator, file)
+    return file, None if generator.random() < 0.1 else text_for(generator, file, profile)
 
 
-def edits_of(generator):
+def edits_of(generator, profile):
     """A list of edits, which begins with most of the files in some order."""
     first = generator.sample(FILES, generator.randint(6, 10))
     edits = [(file, generator.choice(USUAL[file])) for file in first]
-    return edits + [edit_of(generator) for _ in range(generator.randint(2, 10))]
+    return edits + [edit_of(generator, profile) for _ in range(generator.randint(2, 10))]
 
 
 def request_of(edit):
@@ -210,13 +287,13 @@ def request_of(edit):
     return request("DELETE", target) if text is None else request("PUT", target, text)
 
 
-def compared(program, edits, tally):
+def compared(program, profile, edits, tally):
     """Compares the states that a list of edits leads to with those of one load each; what differs first."""
     asked = questions()
     requests = [request("PUT", "/data", DATA)]
     for edit in edits:
         requests += [request_of(edit)] + asked
-    found = answers(program, requests)
+    found = answers(program, requests, profile)
     files = {}
     for at, edit in enumerate(edits):
         first = 1 + at * (1 + len(asked))
@@ -224,7 +301,7 @@ def compared(program, edits, tally):
             files[edit[0]] = edit[1]
         present = [item for item in sorted(files.items()) if item[1] is not None]
         loads = [request("PUT", "/data", DATA)] + [request_of(item) for item in present]
-        fresh = answers(program, loads + asked)[len(loads):]
+        fresh = answers(program, loads + asked, profile)[len(loads):]
         given = found[first + 1:first + 1 + len(asked)]
         for question, (one, other) in enumerate(zip(given, fresh)):
             if without_revision(one) != without_revision(other):
@@ -246,11 +323,13 @@ class Tally:
 
 
 def main():
-    program, lists, seed = sys.argv[1], int(sys.argv[2]), int(sys.argv[3])
+    program, lists, seed, profile = sys.argv[1], int(sys.argv[2]), int(sys.argv[3]), sys.argv[4]
+    if profile == "october-2021":
+        take_october()
     tally = Tally()
     for number in range(lists):
-        edits = edits_of(random.Random("%d %d" % (seed, number)))
-        different = compared(program, edits, tally)
+        edits = edits_of(random.Random("%d %d" % (seed, number)), profile)
+        different = compared(program, profile, edits, tally)
         if different:
             edits, question, given, fresh = different
             print("list %d of seed %d, question %d:" % (number, seed, question))
@@ -260,8 +339,8 @@ def main():
             sys.exit(1)
         if number % 250 == 249:
             print("%d lists" % (number + 1), file=sys.stderr)
-    print("%d lists of edits, %d states, %d without a fault of the schema, %d runs served: 0 differences"
-          % (lists, tally.states, tally.sound, tally.served))
+    print("%s: %d lists of edits, %d states, %d without a fault of the schema, %d runs served: 0 differences"
+          % (profile, lists, tally.states, tally.sound, tally.served))
 
 
 if __name__ == "__main__":

@@ -1,14 +1,17 @@
 #!/bin/sh
 # Checks the examples in the files of the rules by `gqlreg check`: tests/examples.sh. Each file
 # crates/*/src/s12_*.rt has an example that is at fault and one that is not. The first has a fault by its
-# rule, the second has no fault at all. Those of rules on documents (V01 to V29, P03 to P05) are documents
-# over the schema examples/rules.graphql, the others are schemas. It takes two seconds, and if the program
-# is not there three to six minutes, to build it without proof. The last line is `N passed, M failed`.
+# rule, the second has no fault at all. Those of rules on documents (V01 to V30, P03 to P05) are documents
+# over the schema examples/rules.graphql, without its subscription root for P03 and P04; the others are
+# schemas. P01, P02 and P04 are checked under the profile whole-numbers, the others under october-2021. It takes two seconds, and if the program
+# is not there three to six minutes, to build it without proof. GQLREG names another program. The last line is
+# `N passed, M failed`.
 set -u
 LC_ALL=C
 export LC_ALL
 top=$(cd "$(dirname "$0")/.." && pwd)
-program=$("$top/tools/program.sh" gqlreg) || exit 2
+program=${GQLREG:-$("$top/tools/program.sh" gqlreg)}
+[ -x "$program" ] || { echo "no program gqlreg: $program" >&2; exit 2; }
 place=$(mktemp -d)
 trap 'rm -rf "$place"' EXIT
 passed=0
@@ -29,12 +32,19 @@ while read -r rule kind text; do
     rm -rf "$place/folder"
     mkdir -p "$place/folder/schema" "$place/folder/documents"
     case $rule in
-        V* | P03 | P04 | P05)
+        V* | P05)
             cp "$top/examples/rules.graphql" "$place/folder/schema/rules.graphql"
+            printf '%s\n' "$text" > "$place/folder/documents/example.graphql" ;;
+        P03 | P04)
+            sed '/^type Subscription/,/^}/d' "$top/examples/rules.graphql" > "$place/folder/schema/rules.graphql"
             printf '%s\n' "$text" > "$place/folder/documents/example.graphql" ;;
         *) printf '%s\n' "$text" > "$place/folder/schema/example.graphql" ;;
     esac
-    "$program" check "$place/folder" --format json > "$place/answer" 2> "$place/said"
+    case $rule in
+        P01 | P02 | P04) profile=whole-numbers ;;
+        *) profile=october-2021 ;;
+    esac
+    "$program" check "$place/folder" --profile $profile --format json > "$place/answer" 2> "$place/said"
     status=$?
     if [ "$kind" = fault ] && [ $status = 1 ] && grep -q "\"rule\":\"$rule\"" "$place/answer"; then
         passed=$((passed + 1))
@@ -47,7 +57,7 @@ while read -r rule kind text; do
     fi
 done < "$place/examples"
 
-# each of the 70 rules has both
+# each of the 71 rules has both
 for kind in fault none; do
     found=$(awk -v kind=$kind '$2 == kind { print $1 }' "$place/examples" | sort -u | wc -l)
     rules=$(awk '/^[|] [SVP][0-9][0-9] [|]/ { print $2 }' "$top/docs/RULES.md" | sort -u | wc -l)

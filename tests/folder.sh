@@ -74,9 +74,13 @@ for n in 1 2 3 4 5 6 7 8 9 10 11 12 13 14 15 16 17; do
         printf '{ a }' > many/documents/f$n-$m.graphql
     done
 done
-has 'too many files' 2 'many/documents has more than 256 files' "$gqlreg" check many
-awk 'BEGIN { for (i = 0; i < 7000; i++) print "# a comment" }' > bad/schema/long.graphql
-has 'a long file' 2 'has more than 65,536 bytes' "$gqlreg" check bad
+has 'too many files' 2 'many/documents has more than 256 files' "$gqlreg" check many --profile whole-numbers
+has 'as many files as a large registry takes' 1 '^1 fault in 272 files$' "$gqlreg" check many
+awk 'BEGIN { for (i = 0; i < 7000; i++) print "# a comment"; print "scalar Other" }' > bad/schema/long.graphql
+has 'a long file' 2 'has more than 65,536 bytes' "$gqlreg" check bad --profile whole-numbers
+has 'a file that is not too long for a large registry' 0 '^0 faults in 2 files$' "$gqlreg" check bad
+cp bad/schema/long.graphql many/documents/long.graphql
+has 'a long document' 2 'long.graphql has more than 65,536 bytes' "$gqlreg" check many
 
 # ---- check
 
@@ -256,12 +260,12 @@ cp -r linked relinked
 printf 'query Q { a ...F }\nquery R { ...F }\nfragment F on Query { zz }\n' > relinked/documents/d.graphql
 has 'an operation that breaks by a fault that was there' 1 '^  relinked/documents/d.graphql: query Q (by fragment F)' "$gqlreg" check relinked --base linked
 has 'an operation that is healed, with its fault still there' 0 '^0 faults brought, 0 faults mended' "$gqlreg" check linked --base relinked
-# each schema has a fault of Float: what the change does to the documents is not known
+# each schema has a fault of a type that is not there: what the change does to the documents is not known
 mkdir -p shown/schema shown/documents
-printf 'type Query {\n  a: Int\n  f: Float\n}\n' > shown/schema/s.graphql
+printf 'type Query {\n  a: Int\n  f: Gone\n}\n' > shown/schema/s.graphql
 printf 'query Q { a }\n' > shown/documents/d.graphql
 cp -r shown unseen
-printf 'type Query {\n  f: Float\n}\n' > unseen/schema/s.graphql
+printf 'type Query {\n  f: Gone\n}\n' > unseen/schema/s.graphql
 has 'documents that the schema hides' 1 '^0 faults brought, 0 faults mended' "$gqlreg" check unseen --base shown
 printf 'query Q { b }\n' > unseen/documents/d.graphql
 cp shown/schema/s.graphql unseen/schema/s.graphql
@@ -363,11 +367,11 @@ try 'data' 0 "$gqlreg" check team <<'TEXT'
 TEXT
 cp -r team spoilt
 printf '{"query": {"user": [1.5]}}\n' > spoilt/data.json
-try 'data that are refused' 2 "$gqlreg" check spoilt <<'TEXT'
+try 'data that are refused' 2 "$gqlreg" check spoilt --profile whole-numbers <<'TEXT'
 spoilt/data.json: data is not accepted (207)
 TEXT
 awk 'BEGIN { for (i = 0; i < 30000; i++) print "         " }' > spoilt/data.json
-has 'long data' 2 'data.json has more than 262,144 bytes' "$gqlreg" check spoilt
+has 'long data' 2 'data.json has more than 262,144 bytes' "$gqlreg" check spoilt --profile whole-numbers
 
 # ---- colours
 

@@ -1,7 +1,8 @@
 #!/usr/bin/env python3
 """Whether `gqlreg usage` says what the rules say, on random folders: tests/usage_agrees.py [FOLDERS].
 
-Each folder has a schema and documents without faults, made from a fixed seed. For each type, field,
+Each folder has a schema with Float and a subscription root, and documents without faults, made from a fixed
+seed. For each type, field,
 argument, input field, enum value, directive and argument of a directive of its schema, `usage` names no
 reader exactly if no document has a fault once the part is removed from the text of the schema. What the
 part cannot be removed without is removed with it: the fields, arguments and input fields of a type; the
@@ -28,13 +29,13 @@ def named(text):
 def random_schema(r):
     """A schema: types by name, and directives by name."""
     objects = ["A", "B", "C", "D"][: r.randint(2, 4)]
-    leaves = ["Int", "String", "E"]
+    leaves = ["Int", "Float", "String", "E"]
 
     def arguments():
         made = {}
         for name in ["one", "two"]:
             if r.random() < 0.3:
-                made[name] = r.choice(["Int", "E", "E!", "N", "[Int]", "Boolean"])
+                made[name] = r.choice(["Int", "E", "E!", "N", "[Int]", "Boolean", "Float"])
         return made
 
     def fields(names, more):
@@ -55,6 +56,8 @@ def random_schema(r):
     roots = {n: {"type": t, "args": arguments()}
              for n, t in zip("abcdefg", objects + ["I", "U", "Int"])}
     types["Query"] = {"kind": "object", "implements": [], "fields": roots}
+    events = {n: {"type": t, "args": arguments()} for n, t in zip("hij", ["Float", objects[0], "I"])}
+    types["Subscription"] = {"kind": "object", "implements": [], "fields": events}
     return {"types": types, "directives": {"d": {"n": "Int"}, "spare": {}}}
 
 
@@ -104,6 +107,8 @@ class Document:
         name = named(text)
         if name == "Int":
             return str(r.randint(0, 9))
+        if name == "Float":
+            return r.choice(["1", "0.5", "-2.5e3"])
         if name == "Boolean":
             return "true"
         if name == "String":
@@ -153,6 +158,9 @@ class Document:
         return "{ " + " ".join(parts) + " }"
 
     def operation(self, number):
+        if self.r.random() < 0.3:
+            name, field = self.r.choice(list(self.schema["types"]["Subscription"]["fields"].items()))
+            return f"subscription Q{number} {{ {self.field(name, field, 3)} }}\n"
         return f"query Q{number} {self.set('Query', 3)}\n"
 
 

@@ -4,9 +4,11 @@ ghost use Rattle.std.specs.Prelude.{◌≡◌, ◌<◌, ◌^◌, [], length, is_
 ghost use Rattle.std.specs.Option.{option_copied};
 ghost use Rattle.std.specs.BTreeMap.{IsOrdered};
 ghost use Rattle.gql_ast.specs.FileMaps.{file_named, with_file, without_file, name_order};
+ghost use Rattle.gql_ast.specs.Profiles.{whole_numbers};
 
 use crate::definition::Document;
 use crate::file_name::FileName;
+use crate::profile::Profile;
 use crate::shared::Shared;
 use std::alloc::{AllocError, Global};
 use std::collections::BTreeMap;
@@ -110,8 +112,10 @@ impl<T: Drop> FileMap<Shared<T>> {
     }
 }
 
-/// The files that are present: schema files, which are one schema together, and document files.
+/// The files that are present: schema files, which are one schema together, and document files; and
+/// the profile by which they are judged.
 pub struct Files {
+    pub profile: Profile,
     pub schema: FileMap<Shared<Document>>,
     pub documents: FileMap<Shared<Document>>,
 }
@@ -119,6 +123,7 @@ pub struct Files {
 impl Drop for Files {
     fn drop(self) {
         let Files {
+            profile: _,
             schema: _,
             documents: _,
         } = self;
@@ -126,11 +131,19 @@ impl Drop for Files {
 }
 
 impl Files {
-    /// No files.
+    /// No files, in the profile where none is named.
     pub fn new(alloc: Global) -> Files
-        ensures { result ≡ record { schema = []; documents = [] } }
+        ensures { result ≡ record { profile = whole_numbers; schema = []; documents = [] } }
+    {
+        Files::of(alloc, Profile::whole_numbers())
+    }
+
+    /// No files, in this profile.
+    pub fn of(alloc: Global, profile: Profile) -> Files
+        ensures { result ≡ record { profile = profile; schema = []; documents = [] } }
     {
         Files {
+            profile,
             schema: FileMap::new(alloc),
             documents: FileMap::new(alloc),
         }
@@ -141,6 +154,7 @@ impl Files {
         ensures { IfOk result (λ files. files ≡ self.now) }
     {
         Ok(Files {
+            profile: self.profile,
             schema: self.schema.copy()?,
             documents: self.documents.copy()?,
         })

@@ -9,13 +9,14 @@ ghost use Rattle.gql_ast.specs.Rules.{name_of};
 /// the rules on documents (GraphQL 5). `docs/RULES.md` says where each is reported and about what.
 #[derive(Clone, Copy, Debug, PartialEq, Eq)]
 pub enum Rule {
-    /// Float References: a schema file refers to Float, which this registry does not serve.
+    /// Float References: a schema file refers to Float, where it is not served.
     P01,
-    /// Subscription Roots: the schema has a subscription root, and this registry serves none.
+    /// Subscription Roots: the schema has a subscription root, where subscriptions are not served.
     P02,
-    /// Subscriptions: an operation is a subscription, which this registry does not serve.
+    /// Subscriptions Without a Root: an operation is a subscription, and the schema has no
+    /// subscription root.
     P03,
-    /// Float Variables: a variable is of type Float, which this registry does not serve.
+    /// Float Variables: a variable is of type Float, where it is not served.
     P04,
     /// Mutations Without a Root: an operation is a mutation, and the schema has no mutation root.
     P05,
@@ -149,6 +150,9 @@ pub enum Rule {
     V28,
     /// All Variable Usages Are Allowed: a variable is used where its type does not fit.
     V29,
+    /// Single Root Field: a subscription does not have exactly one root field, or that is a field of
+    /// introspection.
+    V30,
 }
 
 impl Rule {
@@ -227,6 +231,7 @@ impl Rule {
             Rule::V27 => "V27",
             Rule::V28 => "V28",
             Rule::V29 => "V29",
+            Rule::V30 => "V30",
         }
     }
 }

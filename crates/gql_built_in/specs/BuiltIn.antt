@@ -1,5 +1,5 @@
 -- What every schema has: scalars (3.5), the types of introspection (4.2) and directives (3.13).
-use Rattle.std.specs.Prelude.{List, [], ◌∷◌, ◌++◌, map, Some, None, false, codes}
+use Rattle.std.specs.Prelude.{Bool, List, [], ◌∷◌, ◌++◌, map, Some, None, false, codes, if◌then◌else◌}
 use Rattle.gql_ast.specs.declared.type_ref.TypeRef.{TypeRef}
 use Rattle.gql_ast.specs.declared.type_system.InputValueDefinition.{InputValueDefinition}
 use Rattle.gql_ast.specs.declared.type_system.FieldDefinition.{FieldDefinition}
@@ -23,13 +23,17 @@ boolean = named (codes "Boolean")
 abbrev pub type : TypeRef
 type = named (codes "__Type")
 
--- the scalars of every schema (3.5), without Float, which this registry doesn't serve
-unfoldable pub scalars : List TypeDefinition
-scalars = scalar (codes "Int")
+-- Float (3.5.2), where it is served
+abbrev pub float_in : Bool → List TypeDefinition
+float_in floats = if floats then scalar (codes "Float") ∷ [] else []
+
+-- the scalars of every schema (3.5), with Float or without it
+unfoldable pub scalars : Bool → List TypeDefinition
+scalars floats = scalar (codes "Int")
     ∷ scalar (codes "String")
     ∷ scalar (codes "Boolean")
     ∷ scalar (codes "ID")
-    ∷ []
+    ∷ float_in floats
 
 -- the fields of __Schema (4.2.1)
 unfoldable pub fields_of_schema : List FieldDefinition
@@ -196,6 +200,7 @@ append = directive (codes "append") to (l.FieldDefinition ∷ [])
 unfoldable pub directives : List DirectiveDefinition
 directives = skip ∷ include ∷ deprecated ∷ specified_by ∷ append ∷ []
 
--- the definitions that every schema has
-unfoldable pub built_in : List (Sited Tree)
-built_in = map a_type scalars ++ map a_type introspection ++ map a_directive directives
+-- the definitions that every schema has, with Float or without it
+unfoldable pub built_in : Bool → List (Sited Tree)
+built_in floats =
+    map a_type (scalars floats) ++ map a_type introspection ++ map a_directive directives

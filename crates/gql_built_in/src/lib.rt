@@ -19,26 +19,29 @@ use gql_ast::{Items, Tree};
 pub use sited::{Sited, SourceFile, name_of_source, same_source};
 use std::alloc::{AllocError, Global};
 
-/// The scalars of every schema (GraphQL specification, 3.5), without Float, which this registry
-/// doesn't serve.
+/// The scalars of every schema (GraphQL specification, 3.5), with Float or without it.
 #[tactic(auto, unfolding(crate::specs::BuiltIn::scalars))]
-fn scalars(alloc: Global) -> Result<Items<Sited<Tree>>, AllocError>
-    ensures { IfOk result (λ ds. ds ≡ map a_type_of spec.scalars) }
+fn scalars(alloc: Global, floats: bool) -> Result<Items<Sited<Tree>>, AllocError>
+    ensures { IfOk result (λ ds. ds ≡ map a_type_of (spec.scalars floats)) }
 {
     let mut found = Items::new(alloc);
     a_type(alloc, &mut found, scalar(alloc, "Int")?)?;
     a_type(alloc, &mut found, scalar(alloc, "String")?)?;
     a_type(alloc, &mut found, scalar(alloc, "Boolean")?)?;
     a_type(alloc, &mut found, scalar(alloc, "ID")?)?;
+    if floats {
+        a_type(alloc, &mut found, scalar(alloc, "Float")?)?;
+    }
     Ok(found)
 }
 
-/// The definitions that every schema has: scalars, the types of introspection and directives.
+/// The definitions that every schema has: scalars, the types of introspection and directives. Float
+/// is among the scalars if it is served.
 #[tactic(auto, unfolding(crate::specs::BuiltIn::built_in))]
-pub fn built_in_definitions(alloc: Global) -> Result<Items<Sited<Tree>>, AllocError>
-    ensures { IfOk result (λ ds. ds ≡ spec.built_in) }
+pub fn built_in_definitions(alloc: Global, floats: bool) -> Result<Items<Sited<Tree>>, AllocError>
+    ensures { IfOk result (λ ds. ds ≡ spec.built_in floats) }
 {
-    let mut definitions = scalars(alloc)?;
+    let mut definitions = scalars(alloc, floats)?;
     definitions.append(introspection(alloc)?)?;
     definitions.append(directives(alloc)?)?;
     Ok(definitions)

@@ -5,10 +5,9 @@ use Rattle.gql_text.specs.declared.place.Place.{Place}
 use Rattle.gql_ast.specs.declared.rule.Rule.TheVariants as rule
 use Rattle.gql_ast.specs.declared.text.Name.{Name}
 use Rattle.gql_types.specs.Written.{Written}
-use Rattle.gql_inputs.specs.BadValues.{bad, misfits, items_misfits, fields_misfits, never_fits, where_known, of_known, single_misfits, single_at, list_by, list_at_one, at_one, item_by, field_by, object_by, missing, lacks, within, within_values, within_fields, repeats, repeats_in_values, repeats_in_fields, expected, field_repeats, is_custom_form, is_given, is_null_given, takes}
+use Rattle.gql_inputs.specs.BadValues.{bad, misfits, items_misfits, fields_misfits, never_fits, where_known, of_known, single_misfits, single_at, list_by, list_at_one, at_one, item_by, field_by, object_by, missing, lacks, within, within_values, within_fields, repeats, repeats_in_values, repeats_in_fields, expected, field_repeats, is_custom_form, is_given, is_null_given, scalar_takes_float, scalar_takes_int, takes}
 use Rattle.gql_inputs.specs.InputTypes.{is_custom, is_list, is_non_null, item_of, name_in, one_of, text_of}
 use Rattle.gql_inputs.specs.Lookups.{InputForm, scalar, enumeration, input_object, FieldForm, InputLookup, field_named, is_required}
-use Rattle.gql_inputs.specs.Numbers.{is_whole}
 use Rattle.gql_inputs.specs.Values.{Value, variable, null, int, float, string, boolean, enum, list, object, Values, no_values, value, Fields, no_fields, field, GivenField, all_fields, is_null, may_be_list, place_of}
 use Rattle.gql_inputs.specs.declared.bad_value.BadValue.{BadValue}
 use Rattle.gql_inputs.specs.declared.scalar.Scalar.{Scalar}
@@ -56,41 +55,44 @@ in_fields f g more (field n x fs) given b has h = subst (λ l. Contains l b) (sy
 
 -- ---- within custom scalars
 
-module _ (name : List ℕ) where
+module _ (s : Scalar) (name : List ℕ) where
   mutual
-    within_found : (x : Value) (b : BadValue) → Contains (within name x) b → MisfitsWithin name x b
+    within_found : (x : Value) (b : BadValue) → Contains (within s name x) b → MisfitsWithin s name x b
     within_found (variable p n) b h = absurd (Contains-nil b h)
     within_found (null p) b h = absurd (Contains-nil b h)
-    within_found (int p text) b h = by (is_whole 63 text) refl h where
-      by : (c : Bool) → is_whole 63 text ≡ c → Contains (if c then [] else bad rule.V18 p name) b → MisfitsWithin name (int p text) b
+    within_found (int p text) b h = by (scalar_takes_int text s) refl h where
+      by : (c : Bool) → scalar_takes_int text s ≡ c → Contains (if c then [] else bad rule.V18 p name) b → MisfitsWithin s name (int p text) b
       by true is so = absurd (Contains-nil b so)
-      by false is so = subst (MisfitsWithin name (int p text)) (one (v18 p name) b so) (cases.long_integer is)
-    within_found (float p) b h = subst (MisfitsWithin name (float p)) (one (v18 p name) b h) cases.fraction
+      by false is so = subst (MisfitsWithin s name (int p text)) (one (v18 p name) b so) (cases.integer is)
+    within_found (float p text) b h = by (scalar_takes_float text s) refl h where
+      by : (c : Bool) → scalar_takes_float text s ≡ c → Contains (if c then [] else bad rule.V18 p name) b → MisfitsWithin s name (float p text) b
+      by true is so = absurd (Contains-nil b so)
+      by false is so = subst (MisfitsWithin s name (float p text)) (one (v18 p name) b so) (cases.fraction is)
     within_found (string p) b h = absurd (Contains-nil b h)
     within_found (boolean p) b h = absurd (Contains-nil b h)
     within_found (enum p n) b h = absurd (Contains-nil b h)
     within_found (list p xs) b h = let r = within_values_found xs b h in cases.within_item r.1 r.2
     within_found (object p fs) b h = let r = within_fields_found fs b h in cases.within_field r.1 r.2
 
-    within_values_found : (xs : Values) (b : BadValue) → Contains (within_values name xs) b → (x : Value) × Contains (all_values xs) x × MisfitsWithin name x b
+    within_values_found : (xs : Values) (b : BadValue) → Contains (within_values s name xs) b → (x : Value) × Contains (all_values xs) x × MisfitsWithin s name x b
     within_values_found no_values b h = absurd (Contains-nil b h)
-    within_values_found (value x xs) b h = elim (Contains-append_cases (within name x) (within_values name xs) b h) [
+    within_values_found (value x xs) b h = elim (Contains-append_cases (within s name x) (within_values s name xs) b h) [
       | inl first ↦ (x, Contains-here x (all_values xs), within_found x b first)
       | inr later ↦ let r = within_values_found xs b later in (r.0, Contains-there r.0 x (all_values xs) r.1, r.2)
     ]
 
-    within_fields_found : (fs : Fields) (b : BadValue) → Contains (within_fields name fs) b → (g : GivenField) × Contains (all_fields fs) g × MisfitsWithin name g.value b
+    within_fields_found : (fs : Fields) (b : BadValue) → Contains (within_fields s name fs) b → (g : GivenField) × Contains (all_fields fs) g × MisfitsWithin s name g.value b
     within_fields_found no_fields b h = absurd (Contains-nil b h)
-    within_fields_found (field n x fs) b h = elim (Contains-append_cases (within name x) (within_fields name fs) b h) [
+    within_fields_found (field n x fs) b h = elim (Contains-append_cases (within s name x) (within_fields s name fs) b h) [
       | inl first ↦ (record { name = n; value = x }, Contains-here (record { name = n; value = x }) (all_fields fs), within_found x b first)
       | inr later ↦ let r = within_fields_found fs b later in (r.0, Contains-there r.0 (record { name = n; value = x }) (all_fields fs) r.1, r.2)
     ]
 
-  found_within : {x : Value} {b : BadValue} → MisfitsWithin name x b → Contains (within name x) b
-  found_within (cases.long_integer {p = p} {text = text} is) = in_false (is_whole 63 text) [] (bad rule.V18 p name) (v18 p name) is (Contains-here (v18 p name) [])
-  found_within (cases.fraction {p = p}) = Contains-here (v18 p name) []
-  found_within (cases.within_item {xs = xs} {x = x} {b = b} has h) = in_values (within name) (within_values name) refl (λ y ys. refl) xs x b has (found_within h)
-  found_within (cases.within_field {fs = fs} {g = g} {b = b} has h) = in_fields (λ (f : GivenField). within name f.value) (within_fields name) (λ n x more. refl) fs g b has (found_within h)
+  found_within : {x : Value} {b : BadValue} → MisfitsWithin s name x b → Contains (within s name x) b
+  found_within (cases.integer {p = p} {text = text} is) = in_false (scalar_takes_int text s) [] (bad rule.V18 p name) (v18 p name) is (Contains-here (v18 p name) [])
+  found_within (cases.fraction {p = p} {text = text} is) = in_false (scalar_takes_float text s) [] (bad rule.V18 p name) (v18 p name) is (Contains-here (v18 p name) [])
+  found_within (cases.within_item {xs = xs} {x = x} {b = b} has h) = in_values (within s name) (within_values s name) refl (λ y ys. refl) xs x b has (found_within h)
+  found_within (cases.within_field {fs = fs} {g = g} {b = b} has h) = in_fields (λ (f : GivenField). within s name f.value) (within_fields s name) (λ n x more. refl) fs g b has (found_within h)
 
 -- ---- V20
 
@@ -99,7 +101,7 @@ mutual
   repeats_found (variable p n) b h = absurd (Contains-nil b h)
   repeats_found (null p) b h = absurd (Contains-nil b h)
   repeats_found (int p text) b h = absurd (Contains-nil b h)
-  repeats_found (float p) b h = absurd (Contains-nil b h)
+  repeats_found (float p text) b h = absurd (Contains-nil b h)
   repeats_found (string p) b h = absurd (Contains-nil b h)
   repeats_found (boolean p) b h = absurd (Contains-nil b h)
   repeats_found (enum p n) b h = absurd (Contains-nil b h)
@@ -185,33 +187,38 @@ module _ (look : InputLookup) where
           subst (Misfits look t (null p)) (one (v18 p (text_of t)) b k.2) (cases.null_at_non_null is k.1)
       by false is so = absurd (Contains-nil b so)
     misfits_found t (int p text) b h = single_found t (int p text) b cases.an_int h
-    misfits_found t (float p) b h = single_found t (float p) b cases.a_float h
+    misfits_found t (float p text) b h = single_found t (float p text) b cases.a_float h
     misfits_found t (string p) b h = single_found t (string p) b cases.a_string h
     misfits_found t (boolean p) b h = single_found t (boolean p) b cases.a_boolean h
     misfits_found t (enum p n) b h = single_found t (enum p n) b cases.an_enum h
     misfits_found t (list p xs) b h = by (λ item so. items_found item xs b so) (item_of t) refl h where
-      at_one_or : (i : InputForm) → item_of t ≡ None → look (name_in t) ≡ Some i → (c : Bool) → is_custom_form i ≡ c → Contains (if c then within_values (name_in t) xs else at_one p t) b → Misfits look t (list p xs) b
-      at_one_or i no_item known true custom so = let r = within_values_found (name_in t) xs b so in cases.in_custom_list no_item known custom (cases.within_item r.1 r.2)
-      at_one_or i no_item known false custom so = subst (Misfits look t (list p xs)) (one (v18 p (text_of (one_of t))) b so) (cases.unexpected_list no_item known custom)
+      scalar_or : (s : Scalar) → item_of t ≡ None → look (name_in t) ≡ Some (scalar s) → (c : Bool) → is_custom s ≡ c → Contains (if c then within_values s (name_in t) xs else at_one p t) b → Misfits look t (list p xs) b
+      scalar_or s no_item known true custom so = let r = within_values_found s (name_in t) xs b so in cases.in_custom_list no_item known custom (cases.within_item r.1 r.2)
+      scalar_or s no_item known false custom so = subst (Misfits look t (list p xs)) (one (v18 p (text_of (one_of t))) b so) (cases.unexpected_list no_item known custom)
+
+      at_form : (i : InputForm) → item_of t ≡ None → look (name_in t) ≡ Some i → Contains (list_at_one p t (λ s name. within_values s name xs) i) b → Misfits look t (list p xs) b
+      at_form (scalar s) no_item known so = scalar_or s no_item known (is_custom s) refl so
+      at_form (enumeration values) no_item known so = subst (Misfits look t (list p xs)) (one (v18 p (text_of (one_of t))) b so) (cases.unexpected_list no_item known refl)
+      at_form (input_object fields) no_item known so = subst (Misfits look t (list p xs)) (one (v18 p (text_of (one_of t))) b so) (cases.unexpected_list no_item known refl)
 
       by : ((item : Written) → Contains (items_misfits look item xs) b → (x : Value) × Contains (all_values xs) x × OfItem item x b) → (o : Option Written) → item_of t ≡ o
-          → Contains (list_by look p t (λ name. within_values name xs) (λ item. items_misfits look item xs) o) b → Misfits look t (list p xs) b
+          → Contains (list_by look p t (λ s name. within_values s name xs) (λ item. items_misfits look item xs) o) b → Misfits look t (list p xs) b
       by found None is so =
-          let k = known_found t (list_at_one p t (λ name. within_values name xs)) b so in
-          at_one_or k.0 is k.1 (is_custom_form k.0) refl k.2
+          let k = known_found t (list_at_one p t (λ s name. within_values s name xs)) b so in
+          at_form k.0 is k.1 k.2
       by found (Some item) is so = let r = found item so in elim r.2 [
         | inl unlisted ↦ subst (Misfits look t (list p xs)) unlisted.1.2 (cases.unlisted_item is r.1 unlisted.0 unlisted.1.1)
         | inr inner ↦ cases.in_item is r.1 inner.0 inner.1
       ]
     misfits_found t (object p fs) b h =
-        let k = known_found t (object_by p t (all_fields fs) (λ name. within_fields name fs) (λ fields. fields_misfits look fields fs)) b h in by (λ fields so. fields_found fields fs b so) k.0 k.1 k.2
+        let k = known_found t (object_by p t (all_fields fs) (λ s name. within_fields s name fs) (λ fields. fields_misfits look fields fs)) b h in by (λ fields so. fields_found fields fs b so) k.0 k.1 k.2
       where
-        scalar_or : (s : Scalar) → look (name_in t) ≡ Some (scalar s) → (c : Bool) → is_custom s ≡ c → Contains (if c then within_fields (name_in t) fs else at_one p t) b → Misfits look t (object p fs) b
-        scalar_or s known true custom so = let r = within_fields_found (name_in t) fs b so in cases.in_custom_object known custom (cases.within_field r.1 r.2)
+        scalar_or : (s : Scalar) → look (name_in t) ≡ Some (scalar s) → (c : Bool) → is_custom s ≡ c → Contains (if c then within_fields s (name_in t) fs else at_one p t) b → Misfits look t (object p fs) b
+        scalar_or s known true custom so = let r = within_fields_found s (name_in t) fs b so in cases.in_custom_object known custom (cases.within_field r.1 r.2)
         scalar_or s known false custom so = subst (Misfits look t (object p fs)) (one (v18 p (text_of (one_of t))) b so)
             (cases.unexpected_object known (λ fields e. let clash : ◌≡◌ {A = InputForm} (scalar s) (input_object fields) = e in cc) custom)
 
-        by : ((fields : List FieldForm) → Contains (fields_misfits look fields fs) b → (g : GivenField) × Contains (all_fields fs) g × OfField fields g.name g.value b) → (i : InputForm) → look (name_in t) ≡ Some i → Contains (object_by p t (all_fields fs) (λ name. within_fields name fs) (λ fields. fields_misfits look fields fs) i) b → Misfits look t (object p fs) b
+        by : ((fields : List FieldForm) → Contains (fields_misfits look fields fs) b → (g : GivenField) × Contains (all_fields fs) g × OfField fields g.name g.value b) → (i : InputForm) → look (name_in t) ≡ Some i → Contains (object_by p t (all_fields fs) (λ s name. within_fields s name fs) (λ fields. fields_misfits look fields fs) i) b → Misfits look t (object p fs) b
         by each (scalar s) known so = scalar_or s known (is_custom s) refl so
         by each (enumeration values) known so = subst (Misfits look t (object p fs)) (one (v18 p (text_of (one_of t))) b so)
             (cases.unexpected_object known (λ fields e. let clash : ◌≡◌ {A = InputForm} (enumeration values) (input_object fields) = e in cc) refl)
@@ -260,35 +267,39 @@ module _ (look : InputLookup) where
   field_in fields fs g b has h = in_fields (λ (f : GivenField). field_by f.name f.value (λ t. misfits look t f.value) (field_named fields f.name.text)) (fields_misfits look fields) (λ n x more. refl) fs g b has h
 
   -- a list at this item type, if there is one
-  list_in : (t : Written) (p : Place) (xs : Values) (o : Option Written) (b : BadValue) → item_of t ≡ o → Contains (list_by look p t (λ name. within_values name xs) (λ item. items_misfits look item xs) o) b
+  list_in : (t : Written) (p : Place) (xs : Values) (o : Option Written) (b : BadValue) → item_of t ≡ o → Contains (list_by look p t (λ s name. within_values s name xs) (λ item. items_misfits look item xs) o) b
       → Contains (misfits look t (list p xs)) b
-  list_in t p xs o b is h = subst (λ i. Contains (list_by look p t (λ name. within_values name xs) (λ item. items_misfits look item xs) i) b) (sym is) h
+  list_in t p xs o b is h = subst (λ i. Contains (list_by look p t (λ s name. within_values s name xs) (λ item. items_misfits look item xs) i) b) (sym is) h
 
-  object_in : (t : Written) (p : Place) (fs : Fields) (i : InputForm) (b : BadValue) → look (name_in t) ≡ Some i → Contains (object_by p t (all_fields fs) (λ name. within_fields name fs) (λ fields. fields_misfits look fields fs) i) b
+  object_in : (t : Written) (p : Place) (fs : Fields) (i : InputForm) (b : BadValue) → look (name_in t) ≡ Some i → Contains (object_by p t (all_fields fs) (λ s name. within_fields s name fs) (λ fields. fields_misfits look fields fs) i) b
       → Contains (misfits look t (object p fs)) b
-  object_in t p fs i b known h = in_known t (object_by p t (all_fields fs) (λ name. within_fields name fs) (λ fields. fields_misfits look fields fs)) i b known h
+  object_in t p fs i b known h = in_known t (object_by p t (all_fields fs) (λ s name. within_fields s name fs) (λ fields. fields_misfits look fields fs)) i b known h
 
   -- a value without parts, by its form
   single_in : (t : Written) (x : Value) (i : InputForm) → IsSingle x → look (name_in t) ≡ Some i → takes x i ≡ false → Contains (misfits look t x) (v18 (place_of x) (expected t i))
   single_in t _ i (cases.an_int {p = p} {text = text}) known is = in_known t (single_at t (int p text)) i (v18 p (expected t i)) known (in_false (takes (int p text) i) [] (bad rule.V18 p (expected t i)) (v18 p (expected t i)) is (Contains-here (v18 p (expected t i)) []))
-  single_in t _ i (cases.a_float {p = p}) known is = in_known t (single_at t (float p)) i (v18 p (expected t i)) known (in_false (takes (float p) i) [] (bad rule.V18 p (expected t i)) (v18 p (expected t i)) is (Contains-here (v18 p (expected t i)) []))
+  single_in t _ i (cases.a_float {p = p} {text = text}) known is = in_known t (single_at t (float p text)) i (v18 p (expected t i)) known (in_false (takes (float p text) i) [] (bad rule.V18 p (expected t i)) (v18 p (expected t i)) is (Contains-here (v18 p (expected t i)) []))
   single_in t _ i (cases.a_string {p = p}) known is = in_known t (single_at t (string p)) i (v18 p (expected t i)) known (in_false (takes (string p) i) [] (bad rule.V18 p (expected t i)) (v18 p (expected t i)) is (Contains-here (v18 p (expected t i)) []))
   single_in t _ i (cases.a_boolean {p = p}) known is = in_known t (single_at t (boolean p)) i (v18 p (expected t i)) known (in_false (takes (boolean p) i) [] (bad rule.V18 p (expected t i)) (v18 p (expected t i)) is (Contains-here (v18 p (expected t i)) []))
   single_in t _ i (cases.an_enum {p = p} {name = name}) known is = in_known t (single_at t (enum p name)) i (v18 p (expected t i)) known (in_false (takes (enum p name) i) [] (bad rule.V18 p (expected t i)) (v18 p (expected t i)) is (Contains-here (v18 p (expected t i)) []))
 
   -- an object where none is expected
   at_one_in : (t : Written) (p : Place) (fs : Fields) (i : InputForm) → ((fields : List FieldForm) → i ≡ input_object fields → ⊥) → is_custom_form i ≡ false
-      → Contains (object_by p t (all_fields fs) (λ name. within_fields name fs) (λ fields. fields_misfits look fields fs) i) (v18 p (text_of (one_of t)))
-  at_one_in t p fs (scalar s) other custom = in_false (is_custom s) (within_fields (name_in t) fs) (at_one p t) (v18 p (text_of (one_of t))) custom (Contains-here (v18 p (text_of (one_of t))) [])
+      → Contains (object_by p t (all_fields fs) (λ s name. within_fields s name fs) (λ fields. fields_misfits look fields fs) i) (v18 p (text_of (one_of t)))
+  at_one_in t p fs (scalar s) other custom = in_false (is_custom s) (within_fields s (name_in t) fs) (at_one p t) (v18 p (text_of (one_of t))) custom (Contains-here (v18 p (text_of (one_of t))) [])
   at_one_in t p fs (enumeration values) other custom = Contains-here (v18 p (text_of (one_of t))) []
   at_one_in t p fs (input_object fields) other custom = absurd (other fields refl)
 
   -- an object that a custom scalar takes
-  custom_in : (t : Written) (p : Place) (fs : Fields) (i : InputForm) (b : BadValue) → is_custom_form i ≡ true → Contains (within_fields (name_in t) fs) b
-      → Contains (object_by p t (all_fields fs) (λ name. within_fields name fs) (λ fields. fields_misfits look fields fs) i) b
-  custom_in t p fs (scalar s) b custom h = in_true (is_custom s) (within_fields (name_in t) fs) (at_one p t) b custom h
-  custom_in t p fs (enumeration values) b custom h = absurd (true≢false (sym custom))
-  custom_in t p fs (input_object fields) b custom h = absurd (true≢false (sym custom))
+  custom_in : (t : Written) (p : Place) (fs : Fields) (s : Scalar) (b : BadValue) → is_custom s ≡ true → Contains (within_fields s (name_in t) fs) b
+      → Contains (object_by p t (all_fields fs) (λ s name. within_fields s name fs) (λ fields. fields_misfits look fields fs) (scalar s)) b
+  custom_in t p fs s b custom h = in_true (is_custom s) (within_fields s (name_in t) fs) (at_one p t) b custom h
+
+  -- a list where none is expected
+  list_one_in : (t : Written) (p : Place) (xs : Values) (i : InputForm) → is_custom_form i ≡ false → Contains (list_at_one p t (λ s name. within_values s name xs) i) (v18 p (text_of (one_of t)))
+  list_one_in t p xs (scalar s) custom = in_false (is_custom s) (within_values s (name_in t) xs) (at_one p t) (v18 p (text_of (one_of t))) custom (Contains-here (v18 p (text_of (one_of t))) [])
+  list_one_in t p xs (enumeration values) custom = Contains-here (v18 p (text_of (one_of t))) []
+  list_one_in t p xs (input_object fields) custom = Contains-here (v18 p (text_of (one_of t))) []
 
   is_false : (c : Bool) → (c ≡ true → ⊥) → c ≡ false
   is_false true never = absurd (never refl)
@@ -299,11 +310,10 @@ module _ (look : InputLookup) where
       in_true (is_non_null t) (never_fits look p t) [] (v18 p (text_of t)) is (in_known t (λ f. bad rule.V18 p (text_of t)) i (v18 p (text_of t)) known (Contains-here (v18 p (text_of t)) []))
   found_misfits (cases.not_taken {t = t} {x = x} {i = i} single known is) = single_in t x i single known is
   found_misfits (cases.unexpected_list {t = t} {p = p} {xs = xs} {i = i} no_item known custom) =
-      list_in t p xs None (v18 p (text_of (one_of t))) no_item (in_known t (list_at_one p t (λ name. within_values name xs)) i (v18 p (text_of (one_of t))) known
-      (in_false (is_custom_form i) (within_values (name_in t) xs) (at_one p t) (v18 p (text_of (one_of t))) custom (Contains-here (v18 p (text_of (one_of t))) [])))
-  found_misfits (cases.in_custom_list {t = t} {p = p} {xs = xs} {i = i} {b = b} no_item known custom inside) =
-      list_in t p xs None b no_item (in_known t (list_at_one p t (λ name. within_values name xs)) i b known
-      (in_true (is_custom_form i) (within_values (name_in t) xs) (at_one p t) b custom (found_within (name_in t) inside)))
+      list_in t p xs None (v18 p (text_of (one_of t))) no_item (in_known t (list_at_one p t (λ s name. within_values s name xs)) i (v18 p (text_of (one_of t))) known (list_one_in t p xs i custom))
+  found_misfits (cases.in_custom_list {t = t} {p = p} {xs = xs} {s = s} {b = b} no_item known custom inside) =
+      list_in t p xs None b no_item (in_known t (list_at_one p t (λ s name. within_values s name xs)) (scalar s) b known
+      (in_true (is_custom s) (within_values s (name_in t) xs) (at_one p t) b custom (found_within s (name_in t) inside)))
   found_misfits (cases.unlisted_item {t = t} {item = item} {p = p} {xs = xs} {x = x} {i = i} is has unlisted known) =
       list_in t p xs (Some item) (v18 (place_of x) (text_of item)) is (item_in item xs x (v18 (place_of x) (text_of item)) has
       (in_true (is_list item && not (may_be_list x)) (never_fits look (place_of x) item) (misfits look item x) (v18 (place_of x) (text_of item)) unlisted
@@ -312,7 +322,7 @@ module _ (look : InputLookup) where
       list_in t p xs (Some item) b is (item_in item xs x b has
       (in_false (is_list item && not (may_be_list x)) (never_fits look (place_of x) item) (misfits look item x) b (is_false (is_list item && not (may_be_list x)) listed) (found_misfits inner)))
   found_misfits (cases.unexpected_object {t = t} {p = p} {fs = fs} {i = i} known other custom) = object_in t p fs i (v18 p (text_of (one_of t))) known (at_one_in t p fs i other custom)
-  found_misfits (cases.in_custom_object {t = t} {p = p} {fs = fs} {i = i} {b = b} known custom inside) = object_in t p fs i b known (custom_in t p fs i b custom (found_within (name_in t) inside))
+  found_misfits (cases.in_custom_object {t = t} {p = p} {fs = fs} {s = s} {b = b} known custom inside) = object_in t p fs (scalar s) b known (custom_in t p fs s b custom (found_within s (name_in t) inside))
   found_misfits (cases.unknown_field {t = t} {p = p} {fs = fs} {fields = fields} {g = g} known has unknown) =
       let b : BadValue = record { rule = rule.V19; place = g.name.place; about = g.name.text } in
       object_in t p fs (input_object fields) b known (Contains-append_left (fields_misfits look fields fs) (flat_map (missing p (all_fields fs)) fields) b

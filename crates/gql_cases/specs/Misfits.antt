@@ -5,12 +5,12 @@ use Rattle.std.specs.Prelude.{◌≡◌, ◌&&◌, ◌⊎◌, ◌↔◌, ℕ, Li
 use Rattle.gql_text.specs.declared.place.Place.{Place}
 use Rattle.gql_ast.specs.declared.rule.Rule.TheVariants as rule
 use Rattle.gql_types.specs.Written.{Written}
-use Rattle.gql_inputs.specs.BadValues.{bad_values_by, expected, field_repeats, is_custom_form, is_given, is_null_given, takes}
-use Rattle.gql_inputs.specs.InputTypes.{is_list, is_non_null, item_of, name_in, one_of, text_of}
-use Rattle.gql_inputs.specs.Lookups.{InputForm, input_object, FieldForm, InputLookup, field_named, is_required}
-use Rattle.gql_inputs.specs.Numbers.{is_whole}
+use Rattle.gql_inputs.specs.BadValues.{bad_values_by, expected, field_repeats, is_custom_form, is_given, is_null_given, scalar_takes_float, scalar_takes_int, takes}
+use Rattle.gql_inputs.specs.InputTypes.{is_custom, is_list, is_non_null, item_of, name_in, one_of, text_of}
+use Rattle.gql_inputs.specs.Lookups.{InputForm, scalar, input_object, FieldForm, InputLookup, field_named, is_required}
 use Rattle.gql_inputs.specs.Values.{Value, null, int, float, string, boolean, enum, list, object, Values, no_values, value, Fields, GivenField, all_fields, is_null, may_be_list, place_of}
 use Rattle.gql_inputs.specs.declared.bad_value.BadValue.{BadValue}
+use Rattle.gql_inputs.specs.declared.scalar.Scalar.{Scalar}
 
 -- a fault by V18, at a place, about the text of a type
 abbrev pub v18 : Place → List ℕ → BadValue
@@ -24,22 +24,23 @@ all_values (value x xs) = x ∷ all_values xs
 -- a value without parts
 pub data IsSingle : Value → Type 0 where
   an_int : {p : Place} {text : List ℕ} → IsSingle (int p text)
-  a_float : {p : Place} → IsSingle (float p)
+  a_float : {p : Place} {text : List ℕ} → IsSingle (float p text)
   a_string : {p : Place} → IsSingle (string p)
   a_boolean : {p : Place} → IsSingle (boolean p)
   an_enum : {p : Place} {name : List ℕ} → IsSingle (enum p name)
 
--- V18 within a value that a custom scalar takes, by its name: it takes integers of 64 bits and no
--- other numbers (this registry's own rule)
-pub data MisfitsWithin (name : List ℕ) : Value → BadValue → Type 0 where
-  long_integer : {p : Place} {text : List ℕ} → is_whole 63 text ≡ false
-      → MisfitsWithin name (int p text) (v18 p name)
-  fraction : {p : Place} → MisfitsWithin name (float p) (v18 p name)
+-- V18 within a value that a custom scalar takes, by the scalar and its name: it takes the same
+-- numbers wherever they are (this registry's own rule)
+pub data MisfitsWithin (s : Scalar) (name : List ℕ) : Value → BadValue → Type 0 where
+  integer : {p : Place} {text : List ℕ} → scalar_takes_int text s ≡ false
+      → MisfitsWithin s name (int p text) (v18 p name)
+  fraction : {p : Place} {text : List ℕ} → scalar_takes_float text s ≡ false
+      → MisfitsWithin s name (float p text) (v18 p name)
   within_item : {p : Place} {xs : Values} {x : Value} {b : BadValue} → Contains (all_values xs) x
-      → MisfitsWithin name x b → MisfitsWithin name (list p xs) b
+      → MisfitsWithin s name x b → MisfitsWithin s name (list p xs) b
   within_field : {p : Place} {fs : Fields} {g : GivenField} {b : BadValue}
-      → Contains (all_fields fs) g → MisfitsWithin name g.value b
-      → MisfitsWithin name (object p fs) b
+      → Contains (all_fields fs) g → MisfitsWithin s name g.value b
+      → MisfitsWithin s name (object p fs) b
 
 -- V21: a required field of the type is not given, or given as null
 abbrev pub IsMissing : List GivenField → FieldForm → Type 0
@@ -66,9 +67,9 @@ pub data Misfits (look : InputLookup) : Written → Value → BadValue → Type 
   unexpected_list : {t : Written} {p : Place} {xs : Values} {i : InputForm} → item_of t ≡ None
       → look (name_in t) ≡ Some i → is_custom_form i ≡ false
       → Misfits look t (list p xs) (v18 p (text_of (one_of t)))
-  in_custom_list : {t : Written} {p : Place} {xs : Values} {i : InputForm} {b : BadValue}
-      → item_of t ≡ None → look (name_in t) ≡ Some i → is_custom_form i ≡ true
-      → MisfitsWithin (name_in t) (list p xs) b → Misfits look t (list p xs) b
+  in_custom_list : {t : Written} {p : Place} {xs : Values} {s : Scalar} {b : BadValue}
+      → item_of t ≡ None → look (name_in t) ≡ Some (scalar s) → is_custom s ≡ true
+      → MisfitsWithin s (name_in t) (list p xs) b → Misfits look t (list p xs) b
   -- an item of a list that is no list, where the items are lists: no list of one is made of it
   unlisted_item : {t item : Written} {p : Place} {xs : Values} {x : Value} {i : InputForm}
       → item_of t ≡ Some item → Contains (all_values xs) x → IsUnlisted item x
@@ -81,9 +82,9 @@ pub data Misfits (look : InputLookup) : Written → Value → BadValue → Type 
   unexpected_object : {t : Written} {p : Place} {fs : Fields} {i : InputForm}
       → look (name_in t) ≡ Some i → ((fields : List FieldForm) → i ≡ input_object fields → ⊥)
       → is_custom_form i ≡ false → Misfits look t (object p fs) (v18 p (text_of (one_of t)))
-  in_custom_object : {t : Written} {p : Place} {fs : Fields} {i : InputForm} {b : BadValue}
-      → look (name_in t) ≡ Some i → is_custom_form i ≡ true
-      → MisfitsWithin (name_in t) (object p fs) b → Misfits look t (object p fs) b
+  in_custom_object : {t : Written} {p : Place} {fs : Fields} {s : Scalar} {b : BadValue}
+      → look (name_in t) ≡ Some (scalar s) → is_custom s ≡ true
+      → MisfitsWithin s (name_in t) (object p fs) b → Misfits look t (object p fs) b
   -- V19: a field that the type does not define
   unknown_field : {t : Written} {p : Place} {fs : Fields} {fields : List FieldForm}
       {g : GivenField} → look (name_in t) ≡ Some (input_object fields)

@@ -4,6 +4,7 @@ use Rattle.std.specs.Result.{IsErrAnd}
 use Rattle.std.proofs.lemmas.Bool.Decides.{nat_tests}
 use Rattle.std.proofs.lemmas.List.{length-map}
 use Rattle.std.proofs.lemmas.Option.{slice_get_past}
+use Rattle.gql_ast.specs.declared.profile.Profile.{Profile}
 use Rattle.gql_check.specs.Faults.{AreRefused, IsFault, IsFileFault, also_accepted, also_refused, bad_folder, empty, first_refused, memory, of_folder, refused}
 use Rattle.gql_check.specs.Loads.{IsFolderOf, folder_edits, folder_indices}
 use Rattle.gql_check.specs.Steps.{ArePuts, IsAnswer, IsLoadFault, IsPutFault}
@@ -31,13 +32,13 @@ none_if (x ∷ xs) e = absurd (no_zero (length xs) e)
     no_zero n is = grind (arith, nat_tests)
 
 -- no file of a registry is among those given
-pub is_empty : (given : List GivenFile) (f : Folder) → IsFolder (paths_of given) (length given) f → (length (folder_indices f) == 0) ≡ true → IsFault given Empty
-is_empty given f h none = empty f h (none_if (folder_indices f) none)
+pub is_empty : (p : Profile) (given : List GivenFile) (f : Folder) → IsFolder p.limits.files (paths_of given) (length given) f → (length (folder_indices f) == 0) ≡ true → IsFault p given Empty
+is_empty p given f h none = empty f h (none_if (folder_indices f) none)
 
 -- the fault of a folder is that of a check
-pub folder_refused : {T : Type 0} (given : List GivenFile) (r : Result T CheckFault) (e : FolderFault) → IsErrAnd r (λ c. c ≡ of_folder e) → IsFolderFault (paths_of given) e → IfErr r (IsFault given)
-folder_refused given (Ok v) e is h = absurd is
-folder_refused given (Err c) e is h = bad_folder e h is
+pub folder_refused : {T : Type 0} (p : Profile) (given : List GivenFile) (r : Result T CheckFault) (e : FolderFault) → IsErrAnd r (λ c. c ≡ of_folder e) → IsFolderFault p.limits.files (paths_of given) e → IfErr r (IsFault p given)
+folder_refused p given (Ok v) e is h = absurd is
+folder_refused p given (Err c) e is h = bad_folder e h is
 
 -- a refusal that is not for memory is that of the edit at its index
 at_index : (s : State) (edits : List Edit) (at : ℕ) (r : Refusal) → (r ≡ refusal.Memory → ⊥) → IsLoadRefusal s edits at r → IsRefusedAt s edits at r
@@ -53,10 +54,11 @@ at_index s edits at (refusal.Faulty faults) other h = h
 at_index s edits at refusal.TooLarge other h = h
 at_index s edits at refusal.Memory other h = absurd (other refl)
 at_index s edits at refusal.Spent other h = h
+at_index s edits at refusal.NotRun other h = h
 
 -- an edit alone that is accepted
-pub accepted_alone : (s t : State) (e : Edit) → s ≡ state.empty → MakesAll s (e ∷ []) t → IsAccepted state.empty None e
-accepted_alone s t e is (step accepts leaves more) = subst (λ x. IsAccepted x None e) is accepts
+pub accepted_alone : (p : Profile) (s t : State) (e : Edit) → s ≡ (state.empty_in p) → MakesAll s (e ∷ []) t → IsAccepted (state.empty_in p) None e
+accepted_alone p s t e is (step accepts leaves more) = subst (λ x. IsAccepted x None e) is accepts
 
 left_same : (s t : State) (edits : List Edit) → edits ≡ [] → MakesAll s edits t → t ≡ s
 left_same s _ _ none done = refl
@@ -75,8 +77,8 @@ first_alone s e (suc n) r h = absurd (past n h.there)
     past n is = cc (sym (slice_get_past (e ∷ []) (suc n) (omega arith)) ∙ is)
 
 -- an edit alone that is refused
-pub refused_alone : (s : State) (e : Edit) (at : ℕ) (r : Refusal) → s ≡ state.empty → (r ≡ refusal.Memory → ⊥) → IsLoadRefusal s (e ∷ []) at r → IsFirstRefusal state.empty None e r
-refused_alone s e at r is other h = subst (λ x. IsFirstRefusal x None e r) is (first_alone s e at r (at_index s (e ∷ []) at r other h))
+pub refused_alone : (p : Profile) (s : State) (e : Edit) (at : ℕ) (r : Refusal) → s ≡ (state.empty_in p) → (r ≡ refusal.Memory → ⊥) → IsLoadRefusal s (e ∷ []) at r → IsFirstRefusal (state.empty_in p) None e r
+refused_alone p s e at r is other h = subst (λ x. IsFirstRefusal x None e r) is (first_alone s e at r (at_index s (e ∷ []) at r other h))
 
 -- the edit of the put at an index is the one at that index
 pub edit_there : (puts : List GivenPut) (at : ℕ) (p : GivenPut) → slice_get puts at ≡ Some p → slice_get (edits_of puts) at ≡ Some (edit_of p)
@@ -85,30 +87,30 @@ edit_there (q ∷ puts) zero p is = cc is
 edit_there (q ∷ puts) (suc n) p is = edit_there puts n p is
 
 -- the first file that is refused
-pub refused_first : (edits : List Edit) (indices : List ℕ) (at file : ℕ) (r : Refusal) (e : FileFault) → (r ≡ refusal.Memory → ⊥) → IsLoadRefusal state.empty edits at r
-    → slice_get indices at ≡ Some file → IsFileFault file r e → AreRefused edits indices (at + 1) (e ∷ [])
-refused_first edits indices at file r e other h index fault = first_refused at r (at_index state.empty edits at r other h) index fault
+pub refused_first : (p : Profile) (edits : List Edit) (indices : List ℕ) (at file : ℕ) (r : Refusal) (e : FileFault) → (r ≡ refusal.Memory → ⊥) → IsLoadRefusal (state.empty_in p) edits at r
+    → slice_get indices at ≡ Some file → IsFileFault file r e → AreRefused p edits indices (at + 1) (e ∷ [])
+refused_first p edits indices at file r e other h index fault = first_refused at r (at_index (state.empty_in p) edits at r other h) index fault
 
 -- the fault of the files that are put is that of the files of the folder
-pub load_fault : (given : List GivenFile) (f : Folder) (p : Puts) → ArePuts given f p → (c : CheckFault) → IsPutFault p c → IsLoadFault given f c
-load_fault given f p puts Empty is = absurd is
-load_fault given f p puts (TooMany side) is = absurd is
-load_fault given f p puts (Twice first at) is = absurd is
-load_fault given f p puts (Misnamed at) is = absurd is
-load_fault given f p puts Memory is = tt
-load_fault given f p puts (Refused es) is =
-    subst (λ indices. AreRefused (folder_edits given f) indices (length (folder_edits given f)) es.items) puts.indices
-    (subst (λ edits. AreRefused edits p.indices.items (length edits) es.items) puts.edits
-    (subst (λ n. AreRefused (edits_of p.puts.items) p.indices.items n es.items) (sym (length-map p.puts.items edit_of)) is))
+pub load_fault : (profile : Profile) (given : List GivenFile) (f : Folder) (p : Puts) → ArePuts given f p → (c : CheckFault) → IsPutFault profile p c → IsLoadFault profile given f c
+load_fault profile given f p puts Empty is = absurd is
+load_fault profile given f p puts (TooMany side) is = absurd is
+load_fault profile given f p puts (Twice first at) is = absurd is
+load_fault profile given f p puts (Misnamed at) is = absurd is
+load_fault profile given f p puts Memory is = tt
+load_fault profile given f p puts (Refused es) is =
+    subst (λ indices. AreRefused profile (folder_edits given f) indices (length (folder_edits given f)) es.items) puts.indices
+    (subst (λ edits. AreRefused profile edits p.indices.items (length edits) es.items) puts.edits
+    (subst (λ n. AreRefused profile (edits_of p.puts.items) p.indices.items n es.items) (sym (length-map p.puts.items edit_of)) is))
 
 -- why the files of a folder are not put is why they are not checked
-pub loading_fault : (given : List GivenFile) (f : Folder) → IsFolderOf given f → (c : CheckFault) → IsLoadFault given f c → IsFault given c
-loading_fault given f h Empty is = absurd is
-loading_fault given f h (TooMany side) is = absurd is
-loading_fault given f h (Twice first at) is = absurd is
-loading_fault given f h (Misnamed at) is = absurd is
-loading_fault given f h Memory is = memory
-loading_fault given f h (Refused es) is = refused f h is
+pub loading_fault : (p : Profile) (given : List GivenFile) (f : Folder) → IsFolderOf p given f → (c : CheckFault) → IsLoadFault p given f c → IsFault p given c
+loading_fault p given f h Empty is = absurd is
+loading_fault p given f h (TooMany side) is = absurd is
+loading_fault p given f h (Twice first at) is = absurd is
+loading_fault p given f h (Misnamed at) is = absurd is
+loading_fault p given f h Memory is = memory
+loading_fault p given f h (Refused es) is = refused f h is
 
 -- what holds of an error holds of the answer that returns it
 pub err_of : {T E : Type 0} (P : E → Type 0) (r : Result T E) (e : E) → IsErrAnd r (λ x. x ≡ e) → P e → IfErr r P
@@ -116,22 +118,22 @@ err_of P (Ok v) e is h = absurd is
 err_of P (Err x) e is h = subst P (sym is) h
 
 -- an answer that is no refusal accepts the edit
-answered : (e : Edit) (o : Option Refusal) → IsAnswer e o → ((r : Refusal) → o ≡ Some r → ⊥) → IsAccepted state.empty None e
-answered e None h none = h
-answered e (Some r) h none = absurd (none r refl)
+answered : (p : Profile) (e : Edit) (o : Option Refusal) → IsAnswer p e o → ((r : Refusal) → o ≡ Some r → ⊥) → IsAccepted (state.empty_in p) None e
+answered p e None h none = h
+answered p e (Some r) h none = absurd (none r refl)
 
 -- a file that a new registry accepts is left out
-pub left_out : (puts : List GivenPut) (indices : List ℕ) (at : ℕ) (p : GivenPut) (es : List FileFault) (o : Option Refusal) → slice_get puts at ≡ Some p → IsAnswer (edit_of p) o
-    → ((r : Refusal) → o ≡ Some r → ⊥) → AreRefused (edits_of puts) indices at es → AreRefused (edits_of puts) indices (at + 1) es
-left_out puts indices at p es o there h none before = also_accepted at (edit_of p) before (edit_there puts at p there) (answered (edit_of p) o h none)
+pub left_out : (profile : Profile) (puts : List GivenPut) (indices : List ℕ) (at : ℕ) (p : GivenPut) (es : List FileFault) (o : Option Refusal) → slice_get puts at ≡ Some p → IsAnswer profile (edit_of p) o
+    → ((r : Refusal) → o ≡ Some r → ⊥) → AreRefused profile (edits_of puts) indices at es → AreRefused profile (edits_of puts) indices (at + 1) es
+left_out profile puts indices at p es o there h none before = also_accepted at (edit_of p) before (edit_there puts at p there) (answered profile (edit_of p) o h none)
 
 -- an answer that is this refusal refuses the edit
-refused_with : (e : Edit) (o : Option Refusal) (r : Refusal) → IsAnswer e o → o ≡ Some r → IsFirstRefusal state.empty None e r
-refused_with e None r h is = absurd (cc is)
-refused_with e (Some x) r h is = subst (λ y. IsFirstRefusal state.empty None e y) (cc is) h
+refused_with : (p : Profile) (e : Edit) (o : Option Refusal) (r : Refusal) → IsAnswer p e o → o ≡ Some r → IsFirstRefusal (state.empty_in p) None e r
+refused_with p e None r h is = absurd (cc is)
+refused_with p e (Some x) r h is = subst (λ y. IsFirstRefusal (state.empty_in p) None e y) (cc is) h
 
 -- a file that a new registry refuses is added
-pub put_in : (puts : List GivenPut) (indices : List ℕ) (at file : ℕ) (p : GivenPut) (es : List FileFault) (e : FileFault) (o : Option Refusal) (r : Refusal) → slice_get puts at ≡ Some p
-    → slice_get indices at ≡ Some file → IsAnswer (edit_of p) o → o ≡ Some r → IsFileFault file r e → AreRefused (edits_of puts) indices at es → AreRefused (edits_of puts) indices (at + 1) (es ++ e ∷ [])
-put_in puts indices at file p es e o r there index h is fault before =
-    also_refused at (edit_of p) r before (edit_there puts at p there) (refused_with (edit_of p) o r h is) index fault
+pub put_in : (profile : Profile) (puts : List GivenPut) (indices : List ℕ) (at file : ℕ) (p : GivenPut) (es : List FileFault) (e : FileFault) (o : Option Refusal) (r : Refusal) → slice_get puts at ≡ Some p
+    → slice_get indices at ≡ Some file → IsAnswer profile (edit_of p) o → o ≡ Some r → IsFileFault file r e → AreRefused profile (edits_of puts) indices at es → AreRefused profile (edits_of puts) indices (at + 1) (es ++ e ∷ [])
+put_in profile puts indices at file p es e o r there index h is fault before =
+    also_refused at (edit_of p) r before (edit_there puts at p there) (refused_with profile (edit_of p) o r h is) index fault

@@ -7,6 +7,7 @@ use Rattle.gql_check.specs.Findings.{IsFinding, IsSource, operation_in}
 use Rattle.gql_check.specs.Loads.{IsFolderState}
 use Rattle.gql_check.specs.Owners.{is_owner}
 use Rattle.gql_ast.specs.declared.files.Files.{Files}
+use Rattle.gql_ast.specs.declared.profile.Profile.{Profile}
 use Rattle.gql_facts.specs.Facts.{fact_of}
 use Rattle.gql_findings.specs.declared.finding.Findings.{Findings}
 use Rattle.gql_folder.specs.declared.folder.Folder.{Folder}
@@ -31,10 +32,11 @@ pub record IsFound (label : List ℕ) (given : List GivenFile) (f : Folder) (fil
       found.affected.items
   pub schema_is_faulty : IsTrue found.schema_is_faulty ↔ (IsSound files → ⊥)
 
--- A check of these files of a folder finds this: what a registry reports after they were put into
--- it one by one.
-pub record IsCheck (label : List ℕ) (given : List GivenFile) (found : Findings) : Type 0 where
+-- A check of these files of a folder finds this: what a registry of this profile reports after they
+-- were put into it one by one.
+pub record IsCheck (p : Profile) (label : List ℕ) (given : List GivenFile) (found : Findings)
+    : Type 0 where
   pub folder : Folder
   pub state : State
-  pub is : IsFolderState given folder state
+  pub is : IsFolderState p given folder state
   pub found_in : IsFound label given folder state.files found

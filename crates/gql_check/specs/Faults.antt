@@ -1,5 +1,6 @@
 -- Why the files of a folder are not checked.
 use Rattle.std.specs.Prelude.{ℕ, ◌≡◌, ◌+◌, List, [], ◌∷◌, ◌++◌, Option, Some, None, codes, length, slice_get}
+use Rattle.gql_ast.specs.declared.profile.Profile.{Profile}
 use Rattle.gql_check.specs.Loads.{IsFolderOf, folder_edits, folder_indices}
 use Rattle.gql_check.specs.declared.fault.CheckFault.{CheckFault}
 use Rattle.gql_check.specs.declared.fault.CheckFault.TheVariants.{Empty, TooMany, Twice, Misnamed, Refused, Memory}
@@ -26,8 +27,8 @@ place_in _ = None
 abbrev pub reason_of : Refusal → List ℕ
 reason_of (refusal.Syntax number place) = syntax_message number
 reason_of refusal.NotText = codes "the file is not UTF-8"
-reason_of refusal.TooLong = codes "the file has more than 65,536 bytes"
-reason_of refusal.FilesFull = codes "there are more than 256 files"
+reason_of refusal.TooLong = codes "the file has more bytes than its profile takes"
+reason_of refusal.FilesFull = codes "there are more files than its profile takes"
 reason_of refusal.BadData = codes "data is not accepted"
 reason_of refusal.Spent = codes "revisions are spent"
 reason_of _ = codes "the file is refused"
@@ -41,32 +42,33 @@ pub record IsFileFault (at : ℕ) (r : Refusal) (e : FileFault) : Type 0 where
 
 -- Of the first `count` of these edits, which put the files at these indices, those that are
 -- refused, in their order. The edits before the first of them are accepted in turn by a new
--- registry, and it is refused in the state that they leave; each of the others is refused by a new
--- registry.
-pub data AreRefused (edits : List Edit) (indices : List ℕ) : ℕ → List FileFault → Type 0 where
+-- registry of this profile, and it is refused in the state that they leave; each of the others is
+-- refused by a new registry.
+pub data AreRefused (p : Profile) (edits : List Edit) (indices : List ℕ)
+    : ℕ → List FileFault → Type 0 where
   -- the first file that is refused
   first_refused : {file : ℕ} {e : FileFault} (at : ℕ) (r : Refusal)
-      → IsRefusedAt state.empty edits at r → slice_get indices at ≡ Some file → IsFileFault file r e
-      → AreRefused edits indices (at + 1) (e ∷ [])
+      → IsRefusedAt (state.empty_in p) edits at r → slice_get indices at ≡ Some file → IsFileFault file r e
+      → AreRefused p edits indices (at + 1) (e ∷ [])
   -- a file after it is refused, too
   also_refused : {es : List FileFault} {file : ℕ} {e : FileFault} (at : ℕ) (edit : Edit)
-      (r : Refusal) → AreRefused edits indices at es → slice_get edits at ≡ Some edit
-      → IsFirstRefusal state.empty None edit r → slice_get indices at ≡ Some file
-      → IsFileFault file r e → AreRefused edits indices (at + 1) (es ++ e ∷ [])
+      (r : Refusal) → AreRefused p edits indices at es → slice_get edits at ≡ Some edit
+      → IsFirstRefusal (state.empty_in p) None edit r → slice_get indices at ≡ Some file
+      → IsFileFault file r e → AreRefused p edits indices (at + 1) (es ++ e ∷ [])
   -- a file after it is accepted
-  also_accepted : {es : List FileFault} (at : ℕ) (edit : Edit) → AreRefused edits indices at es
-      → slice_get edits at ≡ Some edit → IsAccepted state.empty None edit
-      → AreRefused edits indices (at + 1) es
+  also_accepted : {es : List FileFault} (at : ℕ) (edit : Edit) → AreRefused p edits indices at es
+      → slice_get edits at ≡ Some edit → IsAccepted (state.empty_in p) None edit
+      → AreRefused p edits indices (at + 1) es
 
 -- these are the files of a folder that are refused
-abbrev pub AreRefusedFiles : List GivenFile → Folder → List FileFault → Type 0
-AreRefusedFiles given f es =
-    AreRefused (folder_edits given f) (folder_indices f) (length (folder_edits given f)) es
+abbrev pub AreRefusedFiles : Profile → List GivenFile → Folder → List FileFault → Type 0
+AreRefusedFiles p given f es =
+    AreRefused p (folder_edits given f) (folder_indices f) (length (folder_edits given f)) es
 
 -- the files of a folder are refused
-abbrev pub IsRefusal : List GivenFile → Folder → CheckFault → Type 0
-IsRefusal given f (Refused es) = AreRefusedFiles given f es.items
-IsRefusal given f _ = ⊥
+abbrev pub IsRefusal : Profile → List GivenFile → Folder → CheckFault → Type 0
+IsRefusal p given f (Refused es) = AreRefusedFiles p given f es.items
+IsRefusal p given f _ = ⊥
 
 -- the fault of a folder, as one of a check
 abbrev pub of_folder : FolderFault → CheckFault
@@ -75,16 +77,16 @@ of_folder (folder.Twice first at) = Twice first at
 of_folder (folder.TooMany side) = TooMany side
 of_folder folder.Memory = Memory
 
--- Why these files are not checked.
-pub data IsFault (given : List GivenFile) : CheckFault → Type 0 where
+-- Why these files are not checked by this profile.
+pub data IsFault (p : Profile) (given : List GivenFile) : CheckFault → Type 0 where
   -- none of them is a file of a registry
-  empty : (f : Folder) → IsFolder (paths_of given) (length given) f → folder_indices f ≡ []
-      → IsFault given Empty
+  empty : (f : Folder) → IsFolder p.limits.files (paths_of given) (length given) f → folder_indices f ≡ []
+      → IsFault p given Empty
   -- their paths are not those of the files of a registry
-  bad_folder : {c : CheckFault} (e : FolderFault) → IsFolderFault (paths_of given) e
-      → c ≡ of_folder e → IsFault given c
+  bad_folder : {c : CheckFault} (e : FolderFault) → IsFolderFault p.limits.files (paths_of given) e
+      → c ≡ of_folder e → IsFault p given c
   -- files are refused
-  refused : {c : CheckFault} (f : Folder) → IsFolderOf given f → IsRefusal given f c
-      → IsFault given c
+  refused : {c : CheckFault} (f : Folder) → IsFolderOf p given f → IsRefusal p given f c
+      → IsFault p given c
   -- an allocation failed
-  memory : IsFault given Memory
+  memory : IsFault p given Memory

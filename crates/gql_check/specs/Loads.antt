@@ -2,13 +2,14 @@
 use Rattle.std.specs.Prelude.{ℕ, ◌≢◌, List, [], ◌∷◌, ◌++◌, Option, Some, None, length, map, option_map, slice_get, unwrap_or}
 use Rattle.gql_ast.specs.declared.fault.FileSide.{FileSide}
 use Rattle.gql_ast.specs.declared.fault.FileSide.TheVariants.{Schema, Documents}
+use Rattle.gql_ast.specs.declared.profile.Profile.{Profile}
 use Rattle.gql_folder.specs.Folders.{IsFolder, paths_of}
 use Rattle.gql_folder.specs.declared.folder.Folder.{Folder}
 use Rattle.gql_folder.specs.declared.folder.GivenFile.{GivenFile}
 use Rattle.gql_folder.specs.declared.folder.NamedFile.{NamedFile}
 use Rattle.gql_registry.specs.Edits.{Edit, put, put_data}
 use Rattle.gql_registry.specs.Loading.{MakesAll}
-use Rattle.gql_registry.specs.State.{State, empty, state_of}
+use Rattle.gql_registry.specs.State.{State, empty_in, state_of}
 use Rattle.gql_registry.specs.declared.registry.Registry.{Registry}
 
 -- the bytes of the file at an index among those given; empty where there is none
@@ -45,17 +46,18 @@ abbrev pub folder_indices : Folder → List ℕ
 folder_indices f =
     indices_of f.schema.items ++ indices_of f.documents.items ++ data_indices f.«data»
 
--- these are the files of a registry among those given, and there is at least one
-pub record IsFolderOf (given : List GivenFile) (f : Folder) : Type 0 where
-  pub names : IsFolder (paths_of given) (length given) f
+-- these are the files of a registry of this profile among those given, and there is at least one
+pub record IsFolderOf (p : Profile) (given : List GivenFile) (f : Folder) : Type 0 where
+  pub names : IsFolder p.limits.files (paths_of given) (length given) f
   pub some : folder_indices f ≢ []
 
--- the state that putting the files of a folder one by one into a new registry leaves
-pub record IsFolderState (given : List GivenFile) (f : Folder) (s : State) : Type 0 where
-  pub folder : IsFolderOf given f
-  pub puts : MakesAll empty (folder_edits given f) s
+-- the state that putting the files of a folder one by one into a new registry of this profile leaves
+pub record IsFolderState (p : Profile) (given : List GivenFile) (f : Folder) (s : State)
+    : Type 0 where
+  pub folder : IsFolderOf p given f
+  pub puts : MakesAll (empty_in p) (folder_edits given f) s
 
--- the registry holds what putting these files one by one into a new one leaves
-pub record IsLoaded (given : List GivenFile) (r : Registry) : Type 0 where
+-- the registry holds what putting these files one by one into a new one of this profile leaves
+pub record IsLoaded (p : Profile) (given : List GivenFile) (r : Registry) : Type 0 where
   pub folder : Folder
-  pub is : IsFolderState given folder (state_of r)
+  pub is : IsFolderState p given folder (state_of r)

@@ -10,6 +10,7 @@ use Rattle.gql_ast.specs.declared.definition.Definition.{Definition}
 use Rattle.gql_ast.specs.declared.executable.Operation.{Operation}
 use Rattle.gql_ast.specs.declared.fault.Fault.{Fault}
 use Rattle.gql_ast.specs.declared.fault.FilePlace.{FilePlace}
+use Rattle.gql_ast.specs.declared.profile.Profile.{Profile}
 use Rattle.gql_check.specs.Affected.{AreAffected, Breaks, definition_of}
 use Rattle.gql_check.specs.Faults.{AreRefused, AreRefusedFiles}
 use Rattle.gql_check.specs.Loads.{folder_edits, folder_indices}
@@ -30,7 +31,7 @@ use Rattle.gql_folder.specs.declared.folder.GivenFile.{GivenFile}
 use Rattle.gql_folder.specs.declared.folder.NamedFile.{NamedFile}
 use Rattle.gql_registry.specs.Edits.{Edit, IsAccepted, IsFirstRefusal}
 use Rattle.gql_registry.specs.Loading.{edits_of}
-use Rattle.gql_registry.specs.State.{empty}
+use Rattle.gql_registry.specs.State.{empty_in}
 use Rattle.gql_registry.specs.declared.refusal.Refusal.{Refusal}
 
 -- ---- places
@@ -121,20 +122,20 @@ pub record ArePuts (given : List GivenFile) (f : Folder) (p : Puts) : Type 0 whe
   pub edits : edits_of p.puts.items ≡ folder_edits given f
   pub indices : p.indices.items ≡ folder_indices f
 
--- what a new registry answers to an edit: nothing if it accepts it, or its refusal
-abbrev pub IsAnswer : Edit → Option Refusal → Type 0
-IsAnswer e None = IsAccepted empty None e
-IsAnswer e (Some r) = IsFirstRefusal empty None e r
+-- what a new registry of this profile answers to an edit: nothing if it accepts it, or its refusal
+abbrev pub IsAnswer : Profile → Edit → Option Refusal → Type 0
+IsAnswer p e None = IsAccepted (empty_in p) None e
+IsAnswer p e (Some r) = IsFirstRefusal (empty_in p) None e r
 
 -- The files that are refused when all are put, or that an allocation failed.
-abbrev pub IsPutFault : Puts → CheckFault → Type 0
-IsPutFault p (Refused es) =
-    AreRefused (edits_of p.puts.items) p.indices.items (length p.puts.items) es.items
-IsPutFault p Memory = Unit {0}
-IsPutFault p _ = ⊥
+abbrev pub IsPutFault : Profile → Puts → CheckFault → Type 0
+IsPutFault profile p (Refused es) =
+    AreRefused profile (edits_of p.puts.items) p.indices.items (length p.puts.items) es.items
+IsPutFault profile p Memory = Unit {0}
+IsPutFault profile p _ = ⊥
 
 -- why the files of a folder are not put
-abbrev pub IsLoadFault : List GivenFile → Folder → CheckFault → Type 0
-IsLoadFault given f Memory = Unit {0}
-IsLoadFault given f (Refused es) = AreRefusedFiles given f es.items
-IsLoadFault given f _ = ⊥
+abbrev pub IsLoadFault : Profile → List GivenFile → Folder → CheckFault → Type 0
+IsLoadFault p given f Memory = Unit {0}
+IsLoadFault p given f (Refused es) = AreRefusedFiles p given f es.items
+IsLoadFault p given f _ = ⊥

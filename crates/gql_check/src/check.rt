@@ -13,6 +13,7 @@ use crate::loading::{folder_of, load};
 use crate::operations::{definitions_of, operations_of};
 use crate::places::Places;
 use crate::sources::sources_of;
+use gql_ast::Profile;
 use gql_findings::Findings;
 use gql_folder::{Folder, GivenFile};
 use gql_registry::Registry;
@@ -47,14 +48,19 @@ fn found_in(
     })
 }
 
-/// What a check of these files of a folder finds: what a registry reports after they were put into
-/// it one by one. It is refused as `load_files` is.
-pub fn check_files(alloc: Global, folder: &str, given: &[GivenFile]) -> Result<Findings, CheckFault>
-    ensures check { IfOk result (IsCheck folder.now given.now) }
-    ensures err { IfErr result (IsFault given.now) }
+/// What a check of these files of a folder finds: what a registry of this profile reports after they
+/// were put into it one by one. It is refused as `load_files` is.
+pub fn check_files(
+    alloc: Global,
+    profile: Profile,
+    folder: &str,
+    given: &[GivenFile],
+) -> Result<Findings, CheckFault>
+    ensures check { IfOk result (IsCheck profile folder.now given.now) }
+    ensures err { IfErr result (IsFault profile given.now) }
 {
-    let named = folder_of(alloc, given)?;
-    let registry = load(alloc, &named, given)?;
+    let named = folder_of(alloc, profile, given)?;
+    let registry = load(alloc, profile, &named, given)?;
     let found = found_in(alloc, folder, given, named, &registry)?;
     Ok(found)
 }

@@ -27,7 +27,7 @@ pub enum CheckFault {
     /// No file of the folder is one of a registry.
     #[error("no files")]
     Empty,
-    /// There are more than 256 files of a side.
+    /// There are more files of a side than there may be.
     #[error("too many files")]
     TooMany { side: FileSide },
     /// The files at these two indices have one name in a registry.
@@ -99,8 +99,8 @@ fn reason_of(refusal: &Refusal) -> &'static str
     match refusal {
         Refusal::Syntax { number, place: _ } => syntax_message(*number),
         Refusal::NotText => "the file is not UTF-8",
-        Refusal::TooLong => "the file has more than 65,536 bytes",
-        Refusal::FilesFull => "there are more than 256 files",
+        Refusal::TooLong => "the file has more bytes than its profile takes",
+        Refusal::FilesFull => "there are more files than its profile takes",
         Refusal::BadData => "data is not accepted",
         Refusal::Spent => "revisions are spent",
         _ => "the file is refused",

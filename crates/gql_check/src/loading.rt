@@ -7,11 +7,11 @@ ghost use Rattle.gql_check.specs.Loads as spec;
 ghost use Rattle.gql_check.specs.Loads.{IsFolderOf, IsLoaded, folder_edits, folder_indices, indices_of, put_on};
 ghost use Rattle.gql_check.specs.Steps.{ArePuts, IsLoadFault};
 ghost use Rattle.gql_registry.specs.Loading.{MakesAll, edit_of, edits_of};
-ghost use Rattle.gql_registry.specs.State.{empty, state_of};
+ghost use Rattle.gql_registry.specs.State.{empty_in, state_of};
 
 use crate::fault::CheckFault;
 use crate::refusals::put_fault;
-use gql_ast::FileSide;
+use gql_ast::{FileSide, Profile};
 use gql_folder::{Folder, GivenFile, NamedFile, read_folder};
 use gql_registry::{GivenPut, Registry};
 use gql_verdict::Meter;
@@ -115,41 +115,50 @@ fn is_empty(folder: &Folder) -> bool
     folder.schema.is_empty() && folder.documents.is_empty() && folder.data.is_none()
 }
 
-/// The files of a registry among those given, of which there has to be one.
-pub fn folder_of(alloc: Global, given: &[GivenFile]) -> Result<Folder, CheckFault>
-    ensures folder { IfOk result (IsFolderOf given.now) }
-    ensures err { IfErr result (IsFault given.now) }
+/// The files of a registry of this profile among those given, of which there has to be one.
+pub fn folder_of(alloc: Global, profile: Profile, given: &[GivenFile]) -> Result<Folder, CheckFault>
+    ensures folder { IfOk result (IsFolderOf profile given.now) }
+    ensures err { IfErr result (IsFault profile given.now) }
 {
-    let folder = read_folder(alloc, given)?;
+    let folder = read_folder(alloc, given, profile.limits.files)?;
     if is_empty(&folder) {
         return Err(CheckFault::Empty);
     }
     Ok(folder)
 }
 
-/// The registry that putting the files of a folder one by one into a new one leaves.
-pub fn load(alloc: Global, folder: &Folder, given: &[GivenFile]) -> Result<Registry, CheckFault>
+/// The registry that putting the files of a folder one by one into a new one of this profile leaves.
+pub fn load(
+    alloc: Global,
+    profile: Profile,
+    folder: &Folder,
+    given: &[GivenFile],
+) -> Result<Registry, CheckFault>
     ensures loaded { IfOk result (λ r.
-        MakesAll empty (folder_edits given.now folder.now) (state_of r)) }
-    ensures err { IfErr result (IsLoadFault given.now folder.now) }
+        MakesAll (empty_in profile) (folder_edits given.now folder.now) (state_of r)) }
+    ensures err { IfErr result (IsLoadFault profile given.now folder.now) }
 {
     let puts = puts_of(alloc, folder, given)?;
-    let mut registry = Registry::new(alloc);
+    let mut registry = Registry::with(alloc, profile);
     let mut meter = Meter::new(alloc);
     match registry.put_all(puts.puts.as_slice(), &mut meter) {
         Ok(_) => Ok(registry),
-        Err(refused) => Err(put_fault(alloc, &puts, &refused)),
+        Err(refused) => Err(put_fault(alloc, profile, &puts, &refused)),
     }
 }
 
-/// The registry that putting these files of a folder one by one into a new one leaves. It is
-/// refused if none of them is a file of a registry, if their paths are not those of a registry's
-/// files, and with all files that the registry refuses.
-pub fn load_files(alloc: Global, given: &[GivenFile]) -> Result<Registry, CheckFault>
-    ensures loaded { IfOk result (IsLoaded given.now) }
-    ensures err { IfErr result (IsFault given.now) }
+/// The registry that putting these files of a folder one by one into a new one of this profile
+/// leaves. It is refused if none of them is a file of a registry, if their paths are not those of a
+/// registry's files, and with all files that the registry refuses.
+pub fn load_files(
+    alloc: Global,
+    profile: Profile,
+    given: &[GivenFile],
+) -> Result<Registry, CheckFault>
+    ensures loaded { IfOk result (IsLoaded profile given.now) }
+    ensures err { IfErr result (IsFault profile given.now) }
 {
-    let folder = folder_of(alloc, given)?;
-    let registry = load(alloc, &folder, given)?;
+    let folder = folder_of(alloc, profile, given)?;
+    let registry = load(alloc, profile, &folder, given)?;
     Ok(registry)
 }

@@ -4,20 +4,25 @@ ghost use Rattle.std.specs.Prelude.{◌+◌, IfOk, OnOk, length};
 ghost use Rattle.gql_check.specs.Faults.{AreRefused};
 ghost use Rattle.gql_check.specs.Steps.{IsAnswer, IsPutFault};
 ghost use Rattle.gql_registry.specs.Loading.{IsLoadRefusal, edit_of, edits_of};
-ghost use Rattle.gql_registry.specs.State.{empty};
+ghost use Rattle.gql_registry.specs.State.{empty_in};
 
 use crate::fault::{CheckFault, FileFault, file_fault};
 use crate::loading::Puts;
+use gql_ast::Profile;
 use gql_registry::{GivenPut, PutRefusal, Refusal, Registry};
 use gql_verdict::Meter;
 use std::alloc::{AllocError, Global};
 use std::slice;
 
-/// Why a new registry refuses a file; nothing if it accepts it.
-fn refusal_of(alloc: Global, put: &GivenPut<'_>) -> Result<Option<Refusal>, AllocError>
-    ensures { IfOk result (IsAnswer (edit_of put.now)) }
+/// Why a new registry of this profile refuses a file; nothing if it accepts it.
+fn refusal_of(
+    alloc: Global,
+    profile: Profile,
+    put: &GivenPut<'_>,
+) -> Result<Option<Refusal>, AllocError>
+    ensures { IfOk result (IsAnswer profile (edit_of put.now)) }
 {
-    let mut registry = Registry::new(alloc);
+    let mut registry = Registry::with(alloc, profile);
     let mut meter = Meter::new(alloc);
     match registry.put_all(slice::from_ref(put), &mut meter) {
         Ok(_) => Ok(None),
@@ -31,18 +36,19 @@ fn refusal_of(alloc: Global, put: &GivenPut<'_>) -> Result<Option<Refusal>, Allo
 /// Adds the refusal of the file at an index, if a new registry refuses it.
 fn add_refused(
     alloc: Global,
+    profile: Profile,
     puts: &Puts<'_>,
     at: usize,
     refused: &mut Vec<FileFault>,
 ) -> Result<(), AllocError>
-    ensures { OnOk result (AreRefused (edits_of puts.now.puts.items) puts.now.indices.items at
-        refused.old.items → AreRefused (edits_of puts.now.puts.items) puts.now.indices.items
-        (at + 1) refused.new.items) }
+    ensures { OnOk result (AreRefused profile (edits_of puts.now.puts.items)
+        puts.now.indices.items at refused.old.items → AreRefused profile
+        (edits_of puts.now.puts.items) puts.now.indices.items (at + 1) refused.new.items) }
 {
     let (Some(put), Some(file)) = (puts.puts.get(at), puts.indices.get(at)) else {
         return Err(AllocError);
     };
-    if let Some(refusal) = refusal_of(alloc, put)? {
+    if let Some(refusal) = refusal_of(alloc, profile, put)? {
         refused.push(file_fault(*file, &refusal))?;
     }
     Ok(())
@@ -51,11 +57,13 @@ fn add_refused(
 /// The files that are refused, of which this is the first.
 fn refused_files(
     alloc: Global,
+    profile: Profile,
     puts: &Puts<'_>,
     first: &PutRefusal,
 ) -> Result<Vec<FileFault>, AllocError>
-    requires { IsLoadRefusal empty (edits_of puts.now.puts.items) first.now.at first.now.refusal }
-    ensures { IfOk result (λ files. AreRefused (edits_of puts.now.puts.items)
+    requires { IsLoadRefusal (empty_in profile) (edits_of puts.now.puts.items)
+        first.now.at first.now.refusal }
+    ensures { IfOk result (λ files. AreRefused profile (edits_of puts.now.puts.items)
         puts.now.indices.items (length puts.now.puts.items) files.items) }
 {
     let mut refused = Vec::new(alloc);
@@ -67,18 +75,19 @@ fn refused_files(
     }
     refused.push(file_fault(*file, &first.refusal))?;
     for at in first.at + 1..puts.puts.len() {
-        add_refused(alloc, puts, at, &mut refused)?;
+        add_refused(alloc, profile, puts, at, &mut refused)?;
     }
     Ok(refused)
 }
 
 /// Why files are not put: the refusals of the first that is refused, and of each after it that a
 /// new registry refuses.
-pub fn put_fault(alloc: Global, puts: &Puts<'_>, first: &PutRefusal) -> CheckFault
-    requires { IsLoadRefusal empty (edits_of puts.now.puts.items) first.now.at first.now.refusal }
-    ensures { IsPutFault puts.now result }
+pub fn put_fault(alloc: Global, profile: Profile, puts: &Puts<'_>, first: &PutRefusal) -> CheckFault
+    requires { IsLoadRefusal (empty_in profile) (edits_of puts.now.puts.items)
+        first.now.at first.now.refusal }
+    ensures { IsPutFault profile puts.now result }
 {
-    match refused_files(alloc, puts, first) {
+    match refused_files(alloc, profile, puts, first) {
         Ok(files) => CheckFault::Refused(files),
         Err(_) => CheckFault::Memory,
     }

@@ -1,9 +1,9 @@
 //! Why a folder is not checked, in words.
 
 use crate::fault::{CheckFault, FileFault};
-use gql_ast::FileSide;
+use gql_ast::{FileSide, Profile};
 use gql_findings::Source;
-use gql_folder::GivenFile;
+use gql_folder::{GivenFile, with_commas};
 use gql_render::caret::write_padding;
 use gql_render::escapes::write_property;
 use gql_text::Place;
@@ -89,10 +89,23 @@ fn side_folder(side: FileSide) -> &'static str {
     }
 }
 
-/// Why the files given, which are those of a folder, are not checked. Without a line break at its
-/// end.
+/// That a folder has too many files of a side.
+fn too_many_text(
+    alloc: Global,
+    profile: Profile,
+    folder: &str,
+    side: FileSide,
+) -> Result<String, AllocError> {
+    let side = side_folder(side);
+    let most = with_commas(alloc, profile.limits.files)?;
+    format!(in alloc; "{folder}/{side} has more than {most} files")
+}
+
+/// Why the files given, which are those of a folder, are not checked by this profile. Without a line
+/// break at its end.
 pub fn refusal_text(
     alloc: Global,
+    profile: Profile,
     folder: &str,
     files: &[GivenFile],
     fault: &CheckFault,
@@ -101,10 +114,7 @@ pub fn refusal_text(
         CheckFault::Empty => format!(in alloc;
             "{folder} has no files: schema/ and documents/ have those with .graphql at their end"
         ),
-        CheckFault::TooMany { side } => {
-            let side = side_folder(*side);
-            format!(in alloc; "{folder}/{side} has more than 256 files")
-        }
+        CheckFault::TooMany { side } => too_many_text(alloc, profile, folder, *side),
         CheckFault::Twice { first, at } => {
             let (first, at) = (path_at(files, *first), path_at(files, *at));
             format!(in alloc;

@@ -13,14 +13,15 @@ use Rattle.gql_ast.specs.declared.type_system.InputValueDefinition.{InputValueDe
 use Rattle.gql_built_in.specs.declared.sited.Sited.{Sited}
 use Rattle.gql_ast.specs.declared.rule.Rule.TheVariants as rule
 use Rattle.gql_faults.specs.Names.{count_of, repeated}
+use Rattle.gql_inputs.proofs.Customs.{at_named}
 use Rattle.gql_inputs.proofs.Finding.{is_some_find, find_made}
 use Rattle.gql_inputs.proofs.Judged.{items_misfits_is, fields_misfits_is, misfits_null, misfits_list, misfits_object}
 use Rattle.gql_inputs.proofs.Repeating.{repeats_list, repeats_object}
 use Rattle.gql_inputs.proofs.ValueForms.{value_variable, value_int, value_float, value_string, value_boolean, value_null, value_enum, value_list, value_object, all_fields_of}
-use Rattle.gql_inputs.specs.BadValues.{bad, takes, of_known, where_known, never_fits, expected, single_at as bad_single, single_misfits, null_misfits, within as within_custom, within_values, within_fields, at_one, list_by as bad_list, list_misfits, item_misfits, field_by, field_misfits, is_given, is_null_given, lacks, missing, object_misfits, misfits, items_misfits, fields_misfits, is_custom_form, fits, bad_values, repeats, repeat, field_repeats}
-use Rattle.gql_inputs.specs.InputTypes.{if_input, input_type, is_custom, is_custom_at, is_input, is_list, is_non_null, item_of, name_in, name_of, scalar_named}
+use Rattle.gql_inputs.specs.BadValues.{bad, takes, scalar_takes_float, scalar_takes_int, of_known, where_known, never_fits, expected, single_at as bad_single, single_misfits, null_misfits, within as within_custom, within_values, within_fields, at_one, list_by as bad_list, list_misfits, item_misfits, field_by, field_misfits, is_given, is_null_given, lacks, missing, object_misfits, misfits, items_misfits, fields_misfits, is_custom_form, fits, bad_values, repeats, repeat, field_repeats}
+use Rattle.gql_inputs.specs.InputTypes.{if_input, input_type, is_custom, is_custom_at, is_input, is_list, is_non_null, is_open, item_of, name_in, name_of, scalar_named}
 use Rattle.gql_inputs.specs.Lookups.{InputForm, FieldForm, InputLookup, field_of, form_at, form_of, in_schema, is_required}
-use Rattle.gql_inputs.specs.Numbers.{is_whole, whole_number}
+use Rattle.gql_inputs.specs.Numbers.{real_of}
 use Rattle.gql_inputs.specs.Values as values
 use Rattle.gql_inputs.specs.Values.{Value, GivenField, given_field, value_of, values_of, place_of, is_null, all_fields}
 use Rattle.gql_inputs.specs.declared.bad_value.BadValue.{BadValue}
@@ -34,24 +35,23 @@ use Rattle.gql_types.specs.declared.schema_type.SchemaType.{SchemaType}
 use Rattle.serde_json.specs.Data as json
 use Rattle.serde_json.specs.Data.{Data}
 use Rattle.serde_json.specs.View.{items_of}
-use Rattle.std.specs.Str.Parse.{signed_digits_value}
 use Rattle.gql_coerce.specs.Coercion.{coerced, nothing, anything, Entry, are, no_object, any_entry, any_entries, defined_entry, is_defined, unless_unknown, entries_at_kind, entries_by, entries_for, once, item_at, items_from, array_of, list_by, or_null, default_of, or_default, if_given, entry_at, member_at, object_at, put_all, under, null_at, single_at, as_type, item_expected, items_expected, takes_all, given_as, one_in}
 use Rattle.gql_coerce.specs.Comes.{Outcome, Comes}
 use Rattle.gql_coerce.specs.Comes as comes
 use Rattle.gql_coerce.specs.Fitting.{IsConstant, IsKnown, IsGoodField, HasGoodFields}
-use Rattle.gql_coerce.specs.Inputs.{Single, fraction, text as string_text, truth, name as enum_name, of_whole, Input, Field, literal, literal_field, firsts, may_be_list}
+use Rattle.gql_coerce.specs.Inputs.{Single, fraction, text as string_text, truth, name as enum_name, of_int, Input, Field, literal, literal_field, firsts, may_be_list}
 use Rattle.gql_coerce.specs.Laws.{is_value}
 use Rattle.gql_coerce.specs.Outcomes.{Reached, value, refused, too_deep, after, within, all, some}
-use Rattle.gql_coerce.specs.Scalars.{as_custom, wrong_kind}
+use Rattle.gql_coerce.specs.Scalars.{as_any, wrong_kind}
 use Rattle.gql_coerce.specs.declared.refusal.Reason.{Reason}
 use Rattle.gql_coerce.specs.declared.refusal.Reason.TheVariants as reason
 use Rattle.gql_coerce.specs.declared.refusal.Segment.{Segment}
 use Rattle.gql_coerce.specs.declared.refusal.Segment.TheVariants.{Index, Key}
 use Rattle.gql_coerce.proofs.Containing.{Contains-nil, Contains-here, Contains-there, Contains-cases, Contains-map, Contains-map_from}
-use Rattle.gql_coerce.proofs.FitSingles.{has_value, takes_if, Alike, at_type, int_alike, float_alike, string_alike, boolean_alike, enum_alike}
+use Rattle.gql_coerce.proofs.FitSingles.{has_value, takes_if, Alike, at_type, int_taken, scalar_fraction, int_alike, float_alike, string_alike, boolean_alike, enum_alike}
 use Rattle.gql_coerce.proofs.LiteralCases.{by_form}
 use Rattle.gql_coerce.proofs.Reading.{no_level, coerced_int, coerced_float, coerced_string, coerced_boolean, coerced_null, coerced_enum, coerced_list, coerced_object}
-use Rattle.gql_coerce.proofs.Reported.{stop, not_zero, none_some, bytes_same, same_bytes, has_any, found_in, any_first, given_from, no_variable, constant_items, constant_fields, may_agree, not_given, given_there, within_values_is, within_fields_is, item_name, bad_by, custom_if, custom_of, refusal_is_reported}
+use Rattle.gql_coerce.proofs.Reported.{stop, not_zero, none_some, bytes_same, same_bytes, has_any, found_in, any_first, given_from, no_variable, constant_items, constant_fields, may_agree, not_given, given_there, file_scalar, list_by_custom, within_values_is, within_fields_is, item_name, bad_by, custom_if, custom_of, refusal_is_reported}
 
 -- ---- lists that are empty
 
@@ -235,7 +235,7 @@ module _ (s : Schema) where
 
   abbrev InCustom : ℕ → Type 0
   InCustom n = (vs : Data) (x : Literal) → IsConstant x → NoRepeats x → (name : List ℕ) (v : Option Data)
-      → coerced n s (literal vs x) None ≡ value v → within_custom name (value_of x) ≡ []
+      → coerced n s (literal vs x) None ≡ value v → within_custom (file_scalar s) name (value_of x) ≡ []
 
   pub item_no_repeats : (p : Place) (xs : List Literal) → NoRepeats (l.List p xs) → (x : Literal) → Contains xs x → NoRepeats x
   item_no_repeats p xs is x has = each_empty (λ (y : Literal). repeats (value_of y)) xs (sym (repeats_list p xs) ∙ is) x has
@@ -251,9 +251,9 @@ module _ (s : Schema) where
   single_fits : (x : Value) (y : Single) → Alike x y → (t : Written) → IsKnown s t → (v : Option Data)
       → once (Some t) (some (single_at s (Some t) y)) ≡ value v → single_misfits look t x ≡ []
   single_fits x y alike t known v e =
-      let once_is = once_value (Some t) (some (as_type (input_type s t) y)) v e in
-      let at = some_value (as_type (input_type s t) y) once_is.0 once_is.1 in
-      let taken : takes_if x (look (name_in t)) ≡ true = at_type x y alike (type_named s (name_in t)) ∙ ap has_value at.1 in
+      let once_is = once_value (Some t) (some (as_type (is_open s) (input_type s t) y)) v e in
+      let at = some_value (as_type (is_open s) (input_type s t) y) once_is.0 once_is.1 in
+      let taken : takes_if x (look (name_in t)) ≡ true = at_type x y alike (is_open s) (type_named s (name_in t)) ∙ ap has_value at.1 in
       known_empty (bad_single t x) (look (name_in t)) (λ i has. by_test (takes x i) i (sym (ap (takes_if x) has) ∙ taken)) where
         by_test : (b : Bool) (i : InputForm) → b ≡ true → (if b then [] else bad rule.V18 (place_of x) (expected t i)) ≡ []
         by_test true i h = refl
@@ -264,6 +264,12 @@ module _ (s : Schema) where
     by_mark : (b : Bool) (d : Data) → (if b then stop Data reason.NullForNonNull [] else value json.null) ≡ value d → (if b then never_fits look p t else []) ≡ []
     by_mark true d is = absurd (refused_not Data reason.NullForNonNull [] d is)
     by_mark false d is = refl
+
+  any_single_fits : (y : Single) (b : Bool) → b ≡ has_value (as_any (is_open s) y) → (v : Option Data) → some (as_any (is_open s) y) ≡ value v
+      → (bs : List BadValue) → (if b then [] else bs) ≡ []
+  any_single_fits y b same v e bs =
+      let at = some_value (as_any (is_open s) y) v e in
+      ap (λ c. if c then [] else bs) (same ∙ ap has_value at.1)
 
   custom_fits : (t : Written) → (inside other : List BadValue) (b : Bool) → takes_all (input_type s t) ≡ b
       → (b ≡ true → inside ≡ []) → (b ≡ false → other ≡ [])
@@ -304,7 +310,7 @@ module _ (s : Schema) where
         by_form_of false h = let part = before (coerced n s (literal vs x) (Some item)) (or_null (Some item)) d h in each vs x is nr item known part.0 part.1
 
   any_item_fits : (n : ℕ) → InCustom n → (vs : Data) (x : Literal) → IsConstant x → NoRepeats x → (name : List ℕ) (d : Data)
-      → item_at (coerced n s) None (literal vs x) ≡ value d → within_custom name (value_of x) ≡ []
+      → item_at (coerced n s) None (literal vs x) ≡ value d → within_custom (file_scalar s) name (value_of x) ≡ []
   any_item_fits n each vs x is nr name d e = let part = before (coerced n s (literal vs x) None) (or_null None) d e in each vs x is nr name part.0 part.1
 
   array_fits : (n : ℕ) (vs : Data) (xs : List Literal) (of : Literal → List BadValue) (e : Option Written) (d : Data)
@@ -315,18 +321,19 @@ module _ (s : Schema) where
       all_empty of xs (λ x has. let item = item_values (item_at (coerced n s) e) (literal vs) xs 0 part.0 part.1 x has in each x has item.0 item.1)
 
   any_list_fits : (n : ℕ) → InCustom n → (vs : Data) (p : Place) (xs : List Literal) → IsConstant (l.List p xs) → NoRepeats (l.List p xs) → (name : List ℕ) (d : Data)
-      → array_of (item_at (coerced n s) None) (map (literal vs) xs) ≡ value d → within_values name (values_of (map value_of xs)) ≡ []
-  any_list_fits n each vs p xs is nr name d e = within_values_is s name xs ∙ array_fits n vs xs (λ x. within_custom name (value_of x)) None d
+      → array_of (item_at (coerced n s) None) (map (literal vs) xs) ≡ value d → within_values (file_scalar s) name (values_of (map value_of xs)) ≡ []
+  any_list_fits n each vs p xs is nr name d e = within_values_is s name xs ∙ array_fits n vs xs (λ x. within_custom (file_scalar s) name (value_of x)) None d
       (λ x has c i. any_item_fits n each vs x (constant_items p xs is x has) (item_no_repeats p xs nr x has) name c i) e
 
   list_fits : (n : ℕ) → AtType n → InCustom n → (vs : Data) (p : Place) (xs : List Literal) → IsConstant (l.List p xs) → NoRepeats (l.List p xs) → (t : Written) → IsKnown s t → (d : Data)
       → list_by (coerced n s) (map (literal vs) xs) (items_expected s (Some t)) ≡ value d → list_misfits look p t (values_of (map value_of xs)) ≡ []
   list_fits n at_types in_customs vs p xs is nr t known d e = by_item (item_of t) refl e where
     by_item : (o : Option Written) → item_of t ≡ o → list_by (coerced n s) (map (literal vs) xs) (item_expected (input_type s t) o) ≡ value d
-        → bad_list look p t (λ name. within_values name (values_of (map value_of xs))) (λ item. items_misfits look item (values_of (map value_of xs))) o ≡ []
+        → bad_list look p t (λ k name. within_values k name (values_of (map value_of xs))) (λ item. items_misfits look item (values_of (map value_of xs))) o ≡ []
     by_item (Some item) same h = items_misfits_is look item xs ∙ array_fits n vs xs (λ (x : Literal). item_misfits look item (value_of x)) (Some item) d
         (λ x has c i. item_fits n at_types vs x (constant_items p xs is x has) (item_no_repeats p xs nr x has) item (subst (λ m. is_some (look m) ≡ true) (sym (item_name s t item same)) known) c i) h
-    by_item None same h = custom_fits t (within_values (name_in t) (values_of (map value_of xs))) (at_one p t) (takes_all (input_type s t)) refl
+    by_item None same h = list_by_custom s p t (λ k name. within_values k name (values_of (map value_of xs)))
+        ∙ custom_fits t (within_values (file_scalar s) (name_in t) (values_of (map value_of xs))) (at_one p t) (takes_all (input_type s t)) refl
         (λ so. any_list_fits n in_customs vs p xs is nr (name_in t) d (subst (λ b. list_by (coerced n s) (map (literal vs) xs) (if b then anything else nothing) ≡ value d) so h))
         (λ off. absurd (refused_not Data reason.WrongKind [] d (subst (λ b. list_by (coerced n s) (map (literal vs) xs) (if b then anything else nothing) ≡ value d) off h)))
 
@@ -355,14 +362,14 @@ module _ (s : Schema) where
           by_found (Some f) e h = let there = found_in (λ (f : Field). bytes_eq g.name.text f.name) inputs f e in (f, there.0, there.1)
 
   any_object_fits : (n : ℕ) → InCustom n → (vs : Data) (p : Place) (fs : List ObjectField) → IsConstant (l.Object p fs) → NoRepeats (l.Object p fs) → (name : List ℕ) (d : Data)
-      → object_at (coerced n s) (any_entries (firsts (map (literal_field vs) fs))) ≡ value d → within_fields name (values.fields_of (map given_field fs)) ≡ []
-  any_object_fits n each vs p fs is nr name d e = within_fields_is s name fs ∙ all_empty (λ (f : ObjectField). within_custom name (value_of f.value)) fs (λ g has. by_first g has (first_of vs fs g has)) where
-    by_field : (g : ObjectField) → Contains fs g → (v : Option Data) → entry_at (coerced n s) (any_entry (literal_field vs g)) ≡ value v → within_custom name (value_of g.value) ≡ []
+      → object_at (coerced n s) (any_entries (firsts (map (literal_field vs) fs))) ≡ value d → within_fields (file_scalar s) name (values.fields_of (map given_field fs)) ≡ []
+  any_object_fits n each vs p fs is nr name d e = within_fields_is s name fs ∙ all_empty (λ (f : ObjectField). within_custom (file_scalar s) name (value_of f.value)) fs (λ g has. by_first g has (first_of vs fs g has)) where
+    by_field : (g : ObjectField) → Contains fs g → (v : Option Data) → entry_at (coerced n s) (any_entry (literal_field vs g)) ≡ value v → within_custom (file_scalar s) name (value_of g.value) ≡ []
     by_field g has v h =
         let part = before (within (Key g.name.text) (coerced n s (literal vs g.value) None)) (or_default (coerced n s) g.name.text None) v h in
         each vs g.value (constant_fields p fs is g has) (field_no_repeats p fs nr g has) name part.0 (within_value (Key g.name.text) (coerced n s (literal vs g.value) None) part.0 part.1)
 
-    by_first : (g : ObjectField) → Contains fs g → (f : Field) × Contains (firsts (map (literal_field vs) fs)) f × (bytes_eq g.name.text f.name ≡ true) → within_custom name (value_of g.value) ≡ []
+    by_first : (g : ObjectField) → Contains fs g → (f : Field) × Contains (firsts (map (literal_field vs) fs)) f × (bytes_eq g.name.text f.name ≡ true) → within_custom (file_scalar s) name (value_of g.value) ≡ []
     by_first g has first =
         let made = given_from vs fs first.0 first.1 in
         let same : g ≡ made.0 = unique fs (empty_left (field_repeats (map given_field fs)) (flat_map (λ (h : ObjectField). repeats (value_of h.value)) fs) (sym (repeats_object p fs) ∙ nr)) g made.0 has made.1
@@ -489,14 +496,15 @@ module _ (s : Schema) where
       → object_misfits look p t (values.fields_of (map given_field fs)) ≡ []
   object_at_type good n at_types in_customs vs p fs is nr t known whole e = by_type (type_named s (name_in t)) refl known e where
     by_custom : (b : Bool) → object_at (coerced n s) (if b then any_entries (firsts (map (literal_field vs) fs)) else no_object) ≡ value whole
-        → (if b then within_fields (name_in t) (values.fields_of (map given_field fs)) else at_one p t) ≡ []
+        → (if b then within_fields (file_scalar s) (name_in t) (values.fields_of (map given_field fs)) else at_one p t) ≡ []
     by_custom true h = any_object_fits n in_customs vs p fs is nr (name_in t) whole h
     by_custom false h = absurd (refused_not Data reason.WrongKind [] whole h)
 
-    by_kind : (st : SchemaType) → type_named s (name_in t) ≡ Some st → (k : TypeKind) → st.kind ≡ k → is_some (form_at st k) ≡ true
+    by_kind : (st : SchemaType) → type_named s (name_in t) ≡ Some st → (k : TypeKind) → st.kind ≡ k → is_some (form_at (is_open s) st k) ≡ true
         → object_at (coerced n s) (entries_by (firsts (map (literal_field vs) fs)) (if is_input k then Some st else None)) ≡ value whole
-        → of_known (bad_by s p t fs) (form_at st k) ≡ []
-    by_kind st there kind.Scalar same k h = by_custom (is_custom (scalar_named (name_of st)))
+        → of_known (bad_by s p t fs) (form_at (is_open s) st k) ≡ []
+    by_kind st there kind.Scalar same k h = at_named (is_open s) p t (λ k m. within_fields k m (values.fields_of (map given_field fs))) (name_of st)
+        ∙ by_custom (is_custom (scalar_named false (name_of st)))
         (subst (λ c. object_at (coerced n s) (if is_custom_at (name_of st) c then any_entries (firsts (map (literal_field vs) fs)) else no_object) ≡ value whole) same
         (subst (λ c. object_at (coerced n s) (entries_at_kind (firsts (map (literal_field vs) fs)) st c) ≡ value whole) same h))
     by_kind st there kind.Enum same k h = absurd (refused_not Data reason.WrongKind [] whole (subst (λ c. object_at (coerced n s) (entries_at_kind (firsts (map (literal_field vs) fs)) st c) ≡ value whole) same h))
@@ -507,9 +515,9 @@ module _ (s : Schema) where
     by_kind st there kind.Interface same k h = absurd (true≢false (sym k))
     by_kind st there kind.Union same k h = absurd (true≢false (sym k))
 
-    by_type : (u : Option SchemaType) → type_named s (name_in t) ≡ u → is_some (option_and_then form_of u) ≡ true
+    by_type : (u : Option SchemaType) → type_named s (name_in t) ≡ u → is_some (option_and_then (form_of (is_open s)) u) ≡ true
         → object_at (coerced n s) (entries_by (firsts (map (literal_field vs) fs)) (option_and_then if_input u)) ≡ value whole
-        → of_known (bad_by s p t fs) (option_and_then form_of u) ≡ []
+        → of_known (bad_by s p t fs) (option_and_then (form_of (is_open s)) u) ≡ []
     by_type None there k h = absurd (true≢false (sym k))
     by_type (Some st) there k h = by_kind st there st.kind refl k h
 
@@ -517,22 +525,19 @@ module _ (s : Schema) where
 
   in_custom : (n : ℕ) → InCustom n
   in_custom zero vs x is nr name v e = absurd (deep_not v (sym (no_level s (literal vs x) None) ∙ e))
-  in_custom (suc n) vs x is nr m v e = by_form (λ y. IsConstant y → NoRepeats y → coerced (suc n) s (literal vs y) None ≡ value v → within_custom m (value_of y) ≡ []) record {
+  in_custom (suc n) vs x is nr m v e = by_form (λ y. IsConstant y → NoRepeats y → coerced (suc n) s (literal vs y) None ≡ value v → within_custom (file_scalar s) m (value_of y) ≡ []) record {
     object = λ p fs h g i. let d = some_value (object_at (coerced n s) (any_entries (firsts (map (literal_field vs) fs)))) v (sym (coerced_object n s None vs p fs) ∙ i) in
-        ap (within_custom m) (value_object p fs) ∙ any_object_fits n (in_custom n) vs p fs h g m d.0 d.1;
+        ap (within_custom (file_scalar s) m) (value_object p fs) ∙ any_object_fits n (in_custom n) vs p fs h g m d.0 d.1;
     list = λ p xs h g i. let d = some_value (array_of (item_at (coerced n s) None) (map (literal vs) xs)) v (sym (coerced_list n s None vs p xs) ∙ i) in
-        ap (within_custom m) (value_list p xs) ∙ any_list_fits n (in_custom n) vs p xs h g m d.0 d.1;
+        ap (within_custom (file_scalar s) m) (value_list p xs) ∙ any_list_fits n (in_custom n) vs p xs h g m d.0 d.1;
     variable = λ p w h g i. absurd (no_variable p w h);
-    int = λ p t h g i. ap (within_custom m) (value_int p t) ∙ int_fits p t (is_whole 63 t) (sym (coerced_int n s None vs p t) ∙ i);
-    float = λ p t h g i. let d = some_value (as_custom fraction) v (sym (coerced_float n s None vs p t) ∙ i) in absurd (refused_not Data reason.WrongKind [] d.0 d.1);
-    string = λ p t h g i. ap (within_custom m) (value_string p t);
-    boolean = λ p b h g i. ap (within_custom m) (value_boolean p b);
-    null = λ p h g i. ap (within_custom m) (value_null p);
-    enum = λ p k h g i. ap (within_custom m) (value_enum p k);
-  } x is nr e where
-    int_fits : (p : Place) (t : List ℕ) (b : Bool) → some (as_custom (of_whole (if b then Some (signed_digits_value 10 t) else None))) ≡ value v → (if b then [] else bad rule.V18 p m) ≡ []
-    int_fits p t true i = refl
-    int_fits p t false i = let d = some_value (as_custom (of_whole None)) v i in absurd (refused_not Data reason.OutOfRange [] d.0 d.1)
+    int = λ p t h g i. ap (within_custom (file_scalar s) m) (value_int p t) ∙ any_single_fits (of_int t) (scalar_takes_int t (file_scalar s)) (int_taken t (file_scalar s)) v (sym (coerced_int n s None vs p t) ∙ i) (bad rule.V18 p m);
+    float = λ p t h g i. ap (within_custom (file_scalar s) m) (value_float p t) ∙ any_single_fits (fraction (real_of t)) (scalar_takes_float t (file_scalar s)) (scalar_fraction t (file_scalar s)) v (sym (coerced_float n s None vs p t) ∙ i) (bad rule.V18 p m);
+    string = λ p t h g i. ap (within_custom (file_scalar s) m) (value_string p t);
+    boolean = λ p b h g i. ap (within_custom (file_scalar s) m) (value_boolean p b);
+    null = λ p h g i. ap (within_custom (file_scalar s) m) (value_null p);
+    enum = λ p k h g i. ap (within_custom (file_scalar s) m) (value_enum p k);
+  } x is nr e
 
   at_types : HasGoodFields s → (n : ℕ) → AtType n
   at_types good zero vs x is nr t known v e = absurd (deep_not v (sym (no_level s (literal vs x) (Some t)) ∙ e))
@@ -543,8 +548,8 @@ module _ (s : Schema) where
     list = λ p xs h g i. let d = some_value (list_by (coerced n s) (map (literal vs) xs) (items_expected s (Some t))) v (sym (coerced_list n s (Some t) vs p xs) ∙ i) in
         misfits_list look t p xs ∙ list_fits n (at_types good n) (in_custom n) vs p xs h g t known d.0 d.1;
     variable = λ p w h g i. absurd (no_variable p w h);
-    int = λ p w h g i. ap (misfits look t) (value_int p w) ∙ single_fits (values.int p w) (of_whole (whole_number w)) (int_alike p w) t known v (sym (coerced_int n s (Some t) vs p w) ∙ i);
-    float = λ p w h g i. ap (misfits look t) (value_float p w) ∙ single_fits (values.float p) fraction (float_alike p) t known v (sym (coerced_float n s (Some t) vs p w) ∙ i);
+    int = λ p w h g i. ap (misfits look t) (value_int p w) ∙ single_fits (values.int p w) (of_int w) (int_alike p w) t known v (sym (coerced_int n s (Some t) vs p w) ∙ i);
+    float = λ p w h g i. ap (misfits look t) (value_float p w) ∙ single_fits (values.float p w) (fraction (real_of w)) (float_alike p w) t known v (sym (coerced_float n s (Some t) vs p w) ∙ i);
     string = λ p w h g i. ap (misfits look t) (value_string p w) ∙ single_fits (values.string p) (string_text w) (string_alike p w) t known v (sym (coerced_string n s (Some t) vs p w) ∙ i);
     boolean = λ p b h g i. ap (misfits look t) (value_boolean p b) ∙ single_fits (values.boolean p) (truth b) (boolean_alike p b) t known v (sym (coerced_boolean n s (Some t) vs p b) ∙ i);
     null = λ p h g i. misfits_null look t p ∙ null_fits p t v (sym (coerced_null n s (Some t) vs p) ∙ i);

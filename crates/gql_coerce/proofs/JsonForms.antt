@@ -5,7 +5,6 @@ use Rattle.gql_types.specs.declared.schema.Schema.{Schema}
 use Rattle.serde_json.proofs.Views.{view-Array, view-Object}
 use Rattle.serde_json.specs.Data as json
 use Rattle.serde_json.specs.Data.{Data}
-use Rattle.serde_json.specs.Find.{as_i64}
 use Rattle.serde_json.specs.View.{view, number_view, items_view}
 use Rattle.serde_json.specs.declared.number.Number.{Number as ANumber}
 use Rattle.serde_json.specs.declared.value.Value.{Value, Null, Bool as Truth, Number, String as Text, Array, Object, the_lemmas}
@@ -39,7 +38,7 @@ module _ (n : ℕ) (s : Schema) (e : Option Written) where
   pub coerced_bool : (b : Bool) → coerced (suc n) s (json_input (view (Truth b))) e ≡ once e (some (single_at s e (truth b)))
   coerced_bool b = ap (λ d. coerced (suc n) s (json_input d) e) (is_bool b) ∙ level n s _ e
 
-  pub coerced_number : (x : ANumber) → coerced (suc n) s (json_input (view (Number x))) e ≡ once e (some (single_at s e (of_number (as_i64 (number_view x)))))
+  pub coerced_number : (x : ANumber) → coerced (suc n) s (json_input (view (Number x))) e ≡ once e (some (single_at s e (of_number (number_view x))))
   coerced_number x = ap (λ d. coerced (suc n) s (json_input d) e) (is_number x) ∙ level n s _ e
 
   pub coerced_string : (t : String Global) → coerced (suc n) s (json_input (view (Text t))) e ≡ once e (some (single_at s e (json_text (string_bytes t))))

@@ -7,13 +7,13 @@ use Rattle.gql_ast.specs.declared.literal.ObjectField.{ObjectField, fold-ObjectF
 use Rattle.gql_ast.specs.declared.literal.Literal.TheOpen.{Literal-F}
 use Rattle.gql_ast.specs.declared.literal.Literal.TheFolds.{fold-roll-Literal, fold_out-ObjectField}
 use Rattle.gql_ast.specs.declared.literal.Literal.TheVariants as l
-use Rattle.gql_inputs.specs.Numbers.{whole_number}
+use Rattle.gql_inputs.specs.Numbers.{real_of}
 use Rattle.gql_types.specs.Written.{Written}
 use Rattle.gql_types.specs.declared.schema.Schema.{Schema}
 use Rattle.serde_json.specs.Data.{Data}
 use Rattle.serde_json.specs.Find.{as_null, get}
 use Rattle.gql_coerce.specs.Coercion.{coerced, at_level, once, single_at, null_at, list_by, items_expected, object_at, entries_for, variable_at}
-use Rattle.gql_coerce.specs.Inputs.{Input, Field, null, single, list, object, fraction, text, truth, name, of_whole, of_variable, all_inputs, all_fields, inputs_of, fields_of, firsts, literal, literal_at, literal_field, field_in, may_be_list}
+use Rattle.gql_coerce.specs.Inputs.{Input, Field, null, single, list, object, fraction, text, truth, name, of_int, of_variable, all_inputs, all_fields, inputs_of, fields_of, firsts, literal, literal_at, literal_field, field_in, may_be_list}
 use Rattle.gql_coerce.specs.Outcomes.{Reached, value, some, too_deep}
 
 pub all_inputs_of : (xs : List Input) → all_inputs (inputs_of xs) ≡ xs
@@ -29,11 +29,11 @@ module _ (vs : Data) (place : Place) where
   unfolding literal
   is_variable n = ap (literal vs) (sym (l.rolls-Variable place n)) ∙ fold-roll-Literal Input Field (literal_at vs) field_in (Literal-F.Variable place n)
 
-  pub is_int : (t : List ℕ) → literal vs (l.Int place t) ≡ single (of_whole (whole_number t))
+  pub is_int : (t : List ℕ) → literal vs (l.Int place t) ≡ single (of_int t)
   unfolding literal
   is_int t = ap (literal vs) (sym (l.rolls-Int place t)) ∙ fold-roll-Literal Input Field (literal_at vs) field_in (Literal-F.Int place t)
 
-  pub is_float : (t : List ℕ) → literal vs (l.Float place t) ≡ single fraction
+  pub is_float : (t : List ℕ) → literal vs (l.Float place t) ≡ single (fraction (real_of t))
   unfolding literal
   is_float t = ap (literal vs) (sym (l.rolls-Float place t)) ∙ fold-roll-Literal Input Field (literal_at vs) field_in (Literal-F.Float place t)
 
@@ -90,10 +90,10 @@ module _ (n : ℕ) (s : Schema) (e : Option Written) (vs : Data) (place : Place)
   pub variable_comes : (v : List ℕ) (d : Data) → get v vs ≡ Some d → is_some (as_null d) ≡ false → coerced (suc n) s (literal vs (l.Variable place v)) e ≡ value (Some d)
   variable_comes v d got other = coerced_variable v ∙ ap (variable_at e) got ∙ ap (λ b. some (if b then null_at e else value d)) other
 
-  pub coerced_int : (t : List ℕ) → coerced (suc n) s (literal vs (l.Int place t)) e ≡ once e (some (single_at s e (of_whole (whole_number t))))
+  pub coerced_int : (t : List ℕ) → coerced (suc n) s (literal vs (l.Int place t)) e ≡ once e (some (single_at s e (of_int t)))
   coerced_int t = by _ _ (is_int vs place t)
 
-  pub coerced_float : (t : List ℕ) → coerced (suc n) s (literal vs (l.Float place t)) e ≡ once e (some (single_at s e fraction))
+  pub coerced_float : (t : List ℕ) → coerced (suc n) s (literal vs (l.Float place t)) e ≡ once e (some (single_at s e (fraction (real_of t))))
   coerced_float t = by _ _ (is_float vs place t)
 
   pub coerced_string : (t : List ℕ) → coerced (suc n) s (literal vs (l.String place t)) e ≡ once e (some (single_at s e (text t)))

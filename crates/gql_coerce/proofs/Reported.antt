@@ -11,15 +11,17 @@ use Rattle.gql_ast.specs.declared.literal.ObjectField.{ObjectField}
 use Rattle.gql_ast.specs.declared.rule.Rule.TheVariants as rule
 use Rattle.gql_ast.specs.declared.type_system.InputValueDefinition.{InputValueDefinition}
 use Rattle.gql_built_in.specs.declared.sited.Sited.{Sited}
+use Rattle.gql_inputs.proofs.Customs.{at_named, same_custom}
 use Rattle.gql_inputs.proofs.ValueForms.{value_variable, value_int, value_float, value_string, value_boolean, value_null, value_enum, value_list, value_object, all_fields_of}
 use Rattle.gql_inputs.proofs.Finding.{is_some_find, any_made, find_made}
 use Rattle.gql_inputs.proofs.Judged.{items_misfits_is, fields_misfits_is, misfits_null, misfits_list, misfits_object}
-use Rattle.gql_inputs.specs.BadValues.{bad, takes, of_known, where_known, never_fits, expected, single_at as bad_single, single_misfits, null_misfits, within as within_custom, within_values, within_fields, at_one, list_by as bad_list, list_misfits, item_misfits, field_by, field_misfits, is_given, is_null_given, lacks, missing, object_by, object_misfits, misfits, items_misfits, fields_misfits, is_custom_form, fits, bad_values, repeats}
-use Rattle.gql_inputs.specs.InputTypes.{if_input, input_type, is_custom, is_custom_at, is_input, is_list, is_non_null, item_of, name_in, name_of, scalar_named, text_of}
+use Rattle.gql_inputs.specs.BadValues.{bad, takes, scalar_takes_float, scalar_takes_int, of_known, where_known, never_fits, expected, single_at as bad_single, single_misfits, null_misfits, within as within_custom, within_values, within_fields, at_one, Inside, list_at_one, list_by as bad_list, list_misfits, item_misfits, field_by, field_misfits, is_given, is_null_given, lacks, missing, object_by, object_misfits, misfits, items_misfits, fields_misfits, is_custom_form, fits, bad_values, repeats}
+use Rattle.gql_inputs.specs.InputTypes.{custom_scalar, if_input, input_type, is_custom, is_custom_at, is_input, is_list, is_non_null, is_open, item_of, name_in, name_of, scalar_named, text_of}
 use Rattle.gql_inputs.specs.Lookups.{InputForm, FieldForm, InputLookup, field_named, field_of, form_at, form_of, in_schema, is_required}
 use Rattle.gql_inputs.specs.Values as values
 use Rattle.gql_inputs.specs.Values.{Value, GivenField, given_field, value_of, values_of, place_of, is_null, all_fields}
 use Rattle.gql_inputs.specs.declared.bad_value.BadValue.{BadValue}
+use Rattle.gql_inputs.specs.declared.scalar.Scalar.{Scalar}
 use Rattle.gql_types.specs.Schemas.{type_named}
 use Rattle.gql_types.specs.Written.{Written, named, listed, required, written}
 use Rattle.gql_types.specs.declared.kind.TypeKind.{TypeKind}
@@ -31,9 +33,9 @@ use Rattle.serde_json.specs.Data.{Data}
 use Rattle.serde_json.specs.View.{items_of}
 use Rattle.gql_coerce.specs.Coercion.{coerced, nothing, anything, Entry, are, no_object, any_entry, any_entries, defined_entry, is_defined, unless_unknown, entries_at_kind, entries_by, entries_for, once, item_at, items_from, array_of, list_by, or_null, default_of, or_default, if_given, entry_at, member_at, object_at, put_all, under, null_at, single_at, as_type, item_expected, items_expected, takes_all, given_as, one_in}
 use Rattle.gql_coerce.specs.Fitting.{has_variable, is_in_values, is_in_fields, IsConstant, IsKnown, IsGoodField, HasGoodFields, is_of_value, Reports, at_value, unknown, missing as missing_field, null_given, in_item, in_field}
-use Rattle.gql_coerce.specs.Inputs.{Single, fraction, text as string_text, truth, name as enum_name, of_whole, Input, Field, literal, literal_field, firsts, may_be_list}
+use Rattle.gql_coerce.specs.Inputs.{Single, fraction, text as string_text, truth, name as enum_name, of_int, Input, Field, literal, literal_field, firsts, may_be_list}
 use Rattle.gql_coerce.specs.Outcomes.{Reached, value, refused, too_deep, after, within, all, some}
-use Rattle.gql_coerce.specs.Scalars.{as_custom, wrong_kind}
+use Rattle.gql_coerce.specs.Scalars.{as_any, wrong_kind}
 use Rattle.gql_coerce.specs.declared.refusal.Reason.{Reason}
 use Rattle.gql_coerce.specs.declared.refusal.Reason.TheVariants as reason
 use Rattle.gql_coerce.specs.declared.refusal.Segment.{Segment}
@@ -41,13 +43,11 @@ use Rattle.gql_coerce.specs.declared.refusal.Segment.TheVariants.{Index, Key}
 use Rattle.gql_coerce.specs.Comes.{Comes}
 use Rattle.gql_coerce.specs.Comes as comes
 use Rattle.gql_coerce.proofs.Containing.{Contains-nil, Contains-here, Contains-there, Contains-cases, Contains-map, Contains-map_from, Contains-flat_map}
-use Rattle.gql_coerce.proofs.FitSingles.{and_left, and_right, both, has_value, own, takes_if, Alike, at_type, type_own, int_alike, float_alike, string_alike, boolean_alike, enum_alike}
+use Rattle.gql_coerce.proofs.FitSingles.{and_left, and_right, both, has_value, own, takes_if, Alike, at_type, any_own, type_own, int_taken, scalar_fraction, any_text, any_truth, any_name, int_alike, float_alike, string_alike, boolean_alike, enum_alike}
 use Rattle.gql_coerce.proofs.LiteralCases.{by_form}
 use Rattle.gql_coerce.proofs.Reading.{no_level, coerced_int, coerced_float, coerced_string, coerced_boolean, coerced_null, coerced_enum, coerced_list, coerced_object, may_int, may_float, may_string, may_boolean, may_null, may_enum, may_list, may_object, may_variable}
 use Rattle.gql_coerce.proofs.Settling.{is_none, some_none, once_none}
-use Rattle.gql_inputs.specs.Numbers.{is_whole, whole_number}
-use Rattle.serde_json.specs.Find.{of_integer}
-use Rattle.std.specs.Str.Parse.{signed_digits_value}
+use Rattle.gql_inputs.specs.Numbers.{real_of}
 
 -- ---- refusals of parts
 
@@ -341,6 +341,10 @@ module _ (s : Schema) where
   abbrev look : InputLookup
   look = in_schema s
 
+  -- a scalar of a schema file
+  abbrev pub file_scalar : Scalar
+  file_scalar = custom_scalar (is_open s)
+
   never_found : (x : Literal) (v : Value) → value_of x ≡ v → (r : Reason) (path : List Segment) (t : Written) → IsKnown s t → Own r path → Found x (never_fits look (place_of v) t) r path
   never_found x v is r path t known own = found_known x (λ i. bad rule.V18 (place_of v) (text_of t)) r path (look (name_in t)) known
       (λ i e. found_here x v is r path (text_of t) own)
@@ -348,10 +352,10 @@ module _ (s : Schema) where
   single_found : (x : Literal) (v : Value) (y : Single) → value_of x ≡ v → Alike v y → (t : Written) → IsKnown s t → (r : Reason) (path : List Segment)
       → once (Some t) (some (single_at s (Some t) y)) ≡ refused r path → Found x (single_misfits look t v) r path
   single_found x v y is alike t known r path e =
-      let at : as_type (input_type s t) y ≡ refused r path = some_refused (as_type (input_type s t) y) r path (once_refused (Some t) (some (as_type (input_type s t) y)) r path e) in
-      let not_taken : takes_if v (look (name_in t)) ≡ false = at_type v y alike (type_named s (name_in t)) ∙ ap has_value at in
+      let at : as_type (is_open s) (input_type s t) y ≡ refused r path = some_refused (as_type (is_open s) (input_type s t) y) r path (once_refused (Some t) (some (as_type (is_open s) (input_type s t) y)) r path e) in
+      let not_taken : takes_if v (look (name_in t)) ≡ false = at_type v y alike (is_open s) (type_named s (name_in t)) ∙ ap has_value at in
       found_known x (bad_single t v) r path (look (name_in t)) known
-      (λ i has. found_unless x v is r path (expected t i) (own (as_type (input_type s t) y) (type_own (input_type s t) y) r path at) (takes v i) (sym (ap (takes_if v) has) ∙ not_taken))
+      (λ i has. found_unless x v is r path (expected t i) (own (as_type (is_open s) (input_type s t) y) (type_own (is_open s) (input_type s t) y) r path at) (takes v i) (sym (ap (takes_if v) has) ∙ not_taken))
 
   null_found : (p : Place) (t : Written) → IsKnown s t → (r : Reason) (path : List Segment) → some (null_at (Some t)) ≡ refused r path → Found (l.Null p) (null_misfits look p t) r path
   null_found p t known r path e = by_mark (is_non_null t) (some_refused (null_at (Some t)) r path e) where
@@ -365,15 +369,15 @@ module _ (s : Schema) where
   custom_if None = false
   custom_if (Some i) = is_custom_form i
 
-  custom_by : (st : SchemaType) (k : TypeKind) → st.kind ≡ k → takes_all (if is_input k then Some st else None) ≡ custom_if (form_at st k)
-  custom_by st kind.Scalar is = ap (is_custom_at (name_of st)) is
+  custom_by : (st : SchemaType) (k : TypeKind) → st.kind ≡ k → takes_all (if is_input k then Some st else None) ≡ custom_if (form_at (is_open s) st k)
+  custom_by st kind.Scalar is = ap (is_custom_at (name_of st)) is ∙ sym (same_custom (is_open s) (name_of st))
   custom_by st kind.Enum is = ap (is_custom_at (name_of st)) is
   custom_by st kind.InputObject is = ap (is_custom_at (name_of st)) is
   custom_by st kind.Object is = refl
   custom_by st kind.Interface is = refl
   custom_by st kind.Union is = refl
 
-  pub custom_of : (u : Option SchemaType) → takes_all (option_and_then if_input u) ≡ custom_if (option_and_then form_of u)
+  pub custom_of : (u : Option SchemaType) → takes_all (option_and_then if_input u) ≡ custom_if (option_and_then (form_of (is_open s)) u)
   custom_of None = refl
   custom_of (Some st) = custom_by st st.kind refl
 
@@ -387,13 +391,40 @@ module _ (s : Schema) where
         by_custom true e = so (sym e)
         by_custom false e = un (sym e)
 
-  pub within_values_is : (name : List ℕ) (xs : List Literal) → within_values name (values_of (map value_of xs)) ≡ flat_map (λ (x : Literal). within_custom name (value_of x)) xs
-  within_values_is name [] = refl
-  within_values_is name (x ∷ xs) = ap (λ r. within_custom name (value_of x) ++ r) (within_values_is name xs)
+  -- what of a list does not fit, by whether its type is a custom scalar
+  list_at_kind : (p : Place) (t : Written) (inside : Inside) (st : SchemaType) (k : TypeKind) → of_known (list_at_one p t inside) (form_at (is_open s) st k)
+      ≡ of_known (λ i. if is_custom_form i then inside file_scalar (name_in t) else at_one p t) (form_at (is_open s) st k)
+  list_at_kind p t inside st kind.Scalar = at_named (is_open s) p t inside (name_of st)
+      ∙ ap (λ b. if b then inside file_scalar (name_in t) else at_one p t) (sym (same_custom (is_open s) (name_of st)))
+  list_at_kind p t inside st kind.Enum = refl
+  list_at_kind p t inside st kind.InputObject = refl
+  list_at_kind p t inside st kind.Object = refl
+  list_at_kind p t inside st kind.Interface = refl
+  list_at_kind p t inside st kind.Union = refl
 
-  pub within_fields_is : (name : List ℕ) (fs : List ObjectField) → within_fields name (values.fields_of (map given_field fs)) ≡ flat_map (λ (f : ObjectField). within_custom name (value_of f.value)) fs
+  list_at_type : (p : Place) (t : Written) (inside : Inside) (u : Option SchemaType) → of_known (list_at_one p t inside) (option_and_then (form_of (is_open s)) u)
+      ≡ of_known (λ i. if is_custom_form i then inside file_scalar (name_in t) else at_one p t) (option_and_then (form_of (is_open s)) u)
+  list_at_type p t inside None = refl
+  list_at_type p t inside (Some st) = list_at_kind p t inside st st.kind
+
+  pub list_by_custom : (p : Place) (t : Written) (inside : Inside) → where_known look t (list_at_one p t inside)
+      ≡ where_known look t (λ i. if is_custom_form i then inside file_scalar (name_in t) else at_one p t)
+  list_by_custom p t inside = list_at_type p t inside (type_named s (name_in t))
+
+  -- a value without parts, within a custom scalar
+  any_single_found : (x : Literal) (v : Value) (y : Single) → value_of x ≡ v → (b : Bool) → b ≡ has_value (as_any (is_open s) y) → (about : List ℕ) (r : Reason) (path : List Segment)
+      → some (as_any (is_open s) y) ≡ refused r path → Found x (if b then [] else bad rule.V18 (place_of v) about) r path
+  any_single_found x v y is b same about r path e =
+      let at = some_refused (as_any (is_open s) y) r path e in
+      found_unless x v is r path about (own (as_any (is_open s) y) (any_own (is_open s) y) r path at) b (same ∙ ap has_value at)
+
+  pub within_values_is : (name : List ℕ) (xs : List Literal) → within_values file_scalar name (values_of (map value_of xs)) ≡ flat_map (λ (x : Literal). within_custom file_scalar name (value_of x)) xs
+  within_values_is name [] = refl
+  within_values_is name (x ∷ xs) = ap (λ r. within_custom file_scalar name (value_of x) ++ r) (within_values_is name xs)
+
+  pub within_fields_is : (name : List ℕ) (fs : List ObjectField) → within_fields file_scalar name (values.fields_of (map given_field fs)) ≡ flat_map (λ (f : ObjectField). within_custom file_scalar name (value_of f.value)) fs
   within_fields_is name [] = refl
-  within_fields_is name (f ∷ fs) = ap (λ r. within_custom name (value_of f.value) ++ r) (within_fields_is name fs)
+  within_fields_is name (f ∷ fs) = ap (λ r. within_custom file_scalar name (value_of f.value) ++ r) (within_fields_is name fs)
 
   -- ---- with so many levels
 
@@ -403,7 +434,7 @@ module _ (s : Schema) where
 
   abbrev InCustom : ℕ → Type 0
   InCustom n = (vs : Data) (x : Literal) → IsConstant x → (name : List ℕ) (r : Reason) (path : List Segment)
-      → coerced n s (literal vs x) None ≡ refused r path → Found x (within_custom name (value_of x)) r path
+      → coerced n s (literal vs x) None ≡ refused r path → Found x (within_custom file_scalar name (value_of x)) r path
 
   -- a literal without variables comes to something, or is refused
   not_none : (n : ℕ) (vs : Data) (e : Option Written) (x : Literal) → IsConstant x → is_none (coerced n s (literal vs x) e) ≡ false
@@ -412,8 +443,8 @@ module _ (s : Schema) where
     object = λ p fs h. ap is_none (coerced_object n s e vs p fs) ∙ once_none e (object_at (coerced n s) (entries_for s (firsts (map (literal_field vs) fs)) e));
     list = λ p xs h. ap is_none (coerced_list n s e vs p xs) ∙ some_none (list_by (coerced n s) (map (literal vs) xs) (items_expected s e));
     variable = λ p v h. absurd (no_variable p v h);
-    int = λ p t h. ap is_none (coerced_int n s e vs p t) ∙ once_none e (single_at s e (of_whole (whole_number t)));
-    float = λ p t h. ap is_none (coerced_float n s e vs p t) ∙ once_none e (single_at s e fraction);
+    int = λ p t h. ap is_none (coerced_int n s e vs p t) ∙ once_none e (single_at s e (of_int t));
+    float = λ p t h. ap is_none (coerced_float n s e vs p t) ∙ once_none e (single_at s e (fraction (real_of t)));
     string = λ p t h. ap is_none (coerced_string n s e vs p t) ∙ once_none e (single_at s e (string_text t));
     boolean = λ p b h. ap is_none (coerced_boolean n s e vs p b) ∙ once_none e (single_at s e (truth b));
     null = λ p h. ap is_none (coerced_null n s e vs p) ∙ some_none (null_at e);
@@ -458,12 +489,12 @@ module _ (s : Schema) where
 
   -- one item within a custom scalar
   any_item_found : (n : ℕ) → InCustom n → (vs : Data) (x : Literal) → IsConstant x → (name : List ℕ) (r : Reason) (path : List Segment)
-      → item_at (coerced n s) None (literal vs x) ≡ refused r path → Found x (within_custom name (value_of x)) r path
+      → item_at (coerced n s) None (literal vs x) ≡ refused r path → Found x (within_custom file_scalar name (value_of x)) r path
   any_item_found n each vs x is name r path e = elim (after_refused (coerced n s (literal vs x) None) (or_null None) r path e) [
     | inl i ↦ each vs x is name r path i
     | inr later ↦ by_result later.0 later.2
   ] where
-    by_result : (v : Option Data) → or_null None v ≡ refused r path → Found x (within_custom name (value_of x)) r path
+    by_result : (v : Option Data) → or_null None v ≡ refused r path → Found x (within_custom file_scalar name (value_of x)) r path
     by_result None j = absurd (not_value json.null r path j)
     by_result (Some d) j = absurd (not_value d r path j)
 
@@ -482,8 +513,8 @@ module _ (s : Schema) where
 
   -- a list, within a custom scalar
   any_list_found : (n : ℕ) → InCustom n → (vs : Data) (p : Place) (xs : List Literal) → IsConstant (l.List p xs) → (name : List ℕ) (r : Reason) (path : List Segment)
-      → array_of (item_at (coerced n s) None) (map (literal vs) xs) ≡ refused r path → Found (l.List p xs) (within_values name (values_of (map value_of xs))) r path
-  any_list_found n each vs p xs is name r path e = array_found n vs p xs (within_values name (values_of (map value_of xs))) (λ x. within_custom name (value_of x)) None r path
+      → array_of (item_at (coerced n s) None) (map (literal vs) xs) ≡ refused r path → Found (l.List p xs) (within_values file_scalar name (values_of (map value_of xs))) r path
+  any_list_found n each vs p xs is name r path e = array_found n vs p xs (within_values file_scalar name (values_of (map value_of xs))) (λ x. within_custom file_scalar name (value_of x)) None r path
       (sym (within_values_is name xs)) (λ x has more i. any_item_found n each vs x (constant_items p xs is x has) name r more i) e
 
   -- the items of a list have its name
@@ -496,14 +527,15 @@ module _ (s : Schema) where
       → list_by (coerced n s) (map (literal vs) xs) (items_expected s (Some t)) ≡ refused r path → Found (l.List p xs) (list_misfits look p t (values_of (map value_of xs))) r path
   list_found n at_types in_customs vs p xs is t known r path e = by_item (item_of t) refl e where
     by_item : (o : Option Written) → item_of t ≡ o → list_by (coerced n s) (map (literal vs) xs) (item_expected (input_type s t) o) ≡ refused r path
-        → Found (l.List p xs) (bad_list look p t (λ name. within_values name (values_of (map value_of xs))) (λ item. items_misfits look item (values_of (map value_of xs))) o) r path
+        → Found (l.List p xs) (bad_list look p t (λ k name. within_values k name (values_of (map value_of xs))) (λ item. items_misfits look item (values_of (map value_of xs))) o) r path
     by_item (Some item) same h = array_found n vs p xs (items_misfits look item (values_of (map value_of xs))) (λ (x : Literal). item_misfits look item (value_of x)) (Some item) r path
         (sym (items_misfits_is look item xs))
         (λ x has more i. item_found n at_types vs x (constant_items p xs is x has) item (subst (λ m. is_some (look m) ≡ true) (sym (item_name t item same)) known) r more i) h
-    by_item None same h = found_custom (l.List p xs) t known (within_values (name_in t) (values_of (map value_of xs))) (at_one p t) r path (takes_all (input_type s t)) refl
+    by_item None same h = subst (λ bs. Found (l.List p xs) bs r path) (sym (list_by_custom p t (λ k name. within_values k name (values_of (map value_of xs)))))
+        (found_custom (l.List p xs) t known (within_values file_scalar (name_in t) (values_of (map value_of xs))) (at_one p t) r path (takes_all (input_type s t)) refl
         (λ so. any_list_found n in_customs vs p xs is (name_in t) r path (subst (λ b. list_by (coerced n s) (map (literal vs) xs) (if b then anything else nothing) ≡ refused r path) so h))
         (λ un. found_here (l.List p xs) (values.list p (values_of (map value_of xs))) (value_list p xs) r path _
-        (at_once Data reason.WrongKind r path refl (subst (λ b. list_by (coerced n s) (map (literal vs) xs) (if b then anything else nothing) ≡ refused r path) un h)))
+        (at_once Data reason.WrongKind r path refl (subst (λ b. list_by (coerced n s) (map (literal vs) xs) (if b then anything else nothing) ≡ refused r path) un h))))
 
   -- ---- objects
 
@@ -515,18 +547,18 @@ module _ (s : Schema) where
       (found.0, found.1, by_value (entry_at inner found.0) (under found.0.name) r path found.2)
 
   any_object_found : (n : ℕ) → InCustom n → (vs : Data) (p : Place) (fs : List ObjectField) → IsConstant (l.Object p fs) → (name : List ℕ) (r : Reason) (path : List Segment)
-      → object_at (coerced n s) (any_entries (firsts (map (literal_field vs) fs))) ≡ refused r path → Found (l.Object p fs) (within_fields name (values.fields_of (map given_field fs))) r path
+      → object_at (coerced n s) (any_entries (firsts (map (literal_field vs) fs))) ≡ refused r path → Found (l.Object p fs) (within_fields file_scalar name (values.fields_of (map given_field fs))) r path
   any_object_found n each vs p fs is name r path e =
       let m = member_refused (coerced n s) (map any_entry (firsts (map (literal_field vs) fs))) r path e in
       let f = Contains-map_from any_entry (firsts (map (literal_field vs) fs)) m.0 m.1 in
       let g = given_from vs fs f.0 f.1 in
       by_member g.0 g.1 (subst (λ (h : Field). entry_at (coerced n s) (any_entry h) ≡ refused r path) (sym g.2) (subst (λ (k : Entry). entry_at (coerced n s) k ≡ refused r path) (sym f.2) m.2)) where
-        by_member : (g : ObjectField) → Contains fs g → entry_at (coerced n s) (any_entry (literal_field vs g)) ≡ refused r path → Found (l.Object p fs) (within_fields name (values.fields_of (map given_field fs))) r path
+        by_member : (g : ObjectField) → Contains fs g → entry_at (coerced n s) (any_entry (literal_field vs g)) ≡ refused r path → Found (l.Object p fs) (within_fields file_scalar name (values.fields_of (map given_field fs))) r path
         by_member g has i = elim (after_refused (within (Key g.name.text) (coerced n s (literal vs g.value) None)) (or_default (coerced n s) g.name.text None) r path i) [
           | inl at ↦ let part = within_refused (Key g.name.text) (coerced n s (literal vs g.value) None) r path at in
               let found = each vs g.value (constant_fields p fs is g has) name r part.0 part.1 in (
                 found.0,
-                subst (λ bs. Contains bs found.0) (sym (within_fields_is name fs)) (Contains-flat_map (λ (f : ObjectField). within_custom name (value_of f.value)) fs g found.0 has found.1),
+                subst (λ bs. Contains bs found.0) (sym (within_fields_is name fs)) (Contains-flat_map (λ (f : ObjectField). within_custom file_scalar name (value_of f.value)) fs g found.0 has found.1),
                 subst (λ q. Reports (l.Object p fs) r q found.0) part.2 (in_field p fs g has found.2),
               )
           | inr later ↦ absurd (not_value later.0 r path later.2)
@@ -677,7 +709,7 @@ module _ (s : Schema) where
 
   -- what does not fit of an object, by its input type
   abbrev pub bad_by : Place → Written → List ObjectField → InputForm → List BadValue
-  bad_by p t fs i = object_by p t (all_fields (values.fields_of (map given_field fs))) (λ m. within_fields m (values.fields_of (map given_field fs)))
+  bad_by p t fs i = object_by p t (all_fields (values.fields_of (map given_field fs))) (λ k m. within_fields k m (values.fields_of (map given_field fs)))
       (λ fields. fields_misfits look fields (values.fields_of (map given_field fs))) i
 
   -- an object, by its type
@@ -689,16 +721,18 @@ module _ (s : Schema) where
     one_is own = found_here (l.Object p fs) (values.object p (values.fields_of (map given_field fs))) (value_object p fs) r path _ own
 
     by_custom : (b : Bool) (st : SchemaType) → object_at (coerced n s) (if b then any_entries (firsts (map (literal_field vs) fs)) else no_object) ≡ refused r path
-        → Found (l.Object p fs) (if b then within_fields (name_in t) (values.fields_of (map given_field fs)) else at_one p t) r path
+        → Found (l.Object p fs) (if b then within_fields file_scalar (name_in t) (values.fields_of (map given_field fs)) else at_one p t) r path
     by_custom true st h = any_object_found n in_customs vs p fs is (name_in t) r path h
     by_custom false st h = one_is (at_once Data reason.WrongKind r path refl h)
 
-    by_kind : (st : SchemaType) → type_named s (name_in t) ≡ Some st → (k : TypeKind) → st.kind ≡ k → is_some (form_at st k) ≡ true
+    by_kind : (st : SchemaType) → type_named s (name_in t) ≡ Some st → (k : TypeKind) → st.kind ≡ k → is_some (form_at (is_open s) st k) ≡ true
         → object_at (coerced n s) (entries_by (firsts (map (literal_field vs) fs)) (if is_input k then Some st else None)) ≡ refused r path
-        → Found (l.Object p fs) (of_known (bad_by p t fs) (form_at st k)) r path
-    by_kind st there kind.Scalar same k h = by_custom (is_custom (scalar_named (name_of st))) st
+        → Found (l.Object p fs) (of_known (bad_by p t fs) (form_at (is_open s) st k)) r path
+    by_kind st there kind.Scalar same k h = subst (λ bs. Found (l.Object p fs) bs r path)
+        (sym (at_named (is_open s) p t (λ k m. within_fields k m (values.fields_of (map given_field fs))) (name_of st)))
+        (by_custom (is_custom (scalar_named false (name_of st))) st
         (subst (λ c. object_at (coerced n s) (if is_custom_at (name_of st) c then any_entries (firsts (map (literal_field vs) fs)) else no_object) ≡ refused r path) same
-        (subst (λ c. object_at (coerced n s) (entries_at_kind (firsts (map (literal_field vs) fs)) st c) ≡ refused r path) same h))
+        (subst (λ c. object_at (coerced n s) (entries_at_kind (firsts (map (literal_field vs) fs)) st c) ≡ refused r path) same h)))
     by_kind st there kind.Enum same k h = one_is (at_once Data reason.WrongKind r path refl (subst (λ c. object_at (coerced n s) (entries_at_kind (firsts (map (literal_field vs) fs)) st c) ≡ refused r path) same h))
     by_kind st there kind.InputObject same k h = defined_found n at_types vs p fs is st (λ d has. good (name_in t) st there d has) r path
         (find (λ (f : Field). not (is_defined st.input_fields f)) (firsts (map (literal_field vs) fs))) refl
@@ -707,9 +741,9 @@ module _ (s : Schema) where
     by_kind st there kind.Interface same k h = absurd (true≢false (sym k))
     by_kind st there kind.Union same k h = absurd (true≢false (sym k))
 
-    by_type : (u : Option SchemaType) → type_named s (name_in t) ≡ u → is_some (option_and_then form_of u) ≡ true
+    by_type : (u : Option SchemaType) → type_named s (name_in t) ≡ u → is_some (option_and_then (form_of (is_open s)) u) ≡ true
         → object_at (coerced n s) (entries_by (firsts (map (literal_field vs) fs)) (option_and_then if_input u)) ≡ refused r path
-        → Found (l.Object p fs) (of_known (bad_by p t fs) (option_and_then form_of u)) r path
+        → Found (l.Object p fs) (of_known (bad_by p t fs) (option_and_then (form_of (is_open s)) u)) r path
     by_type None there k h = absurd (true≢false (sym k))
     by_type (Some st) there k h = by_kind st there st.kind refl k h
 
@@ -718,24 +752,20 @@ module _ (s : Schema) where
   -- within a custom scalar
   in_custom : (n : ℕ) → InCustom n
   in_custom zero vs x is name r path e = absurd (not_deep (Option Data) r path (sym (no_level s (literal vs x) None) ∙ e))
-  in_custom (suc n) vs x is m r path e = by_form (λ y. IsConstant y → coerced (suc n) s (literal vs y) None ≡ refused r path → Found y (within_custom m (value_of y)) r path) record {
-    object = λ p fs h i. subst (λ v. Found (l.Object p fs) (within_custom m v) r path) (sym (value_object p fs))
+  in_custom (suc n) vs x is m r path e = by_form (λ y. IsConstant y → coerced (suc n) s (literal vs y) None ≡ refused r path → Found y (within_custom file_scalar m (value_of y)) r path) record {
+    object = λ p fs h i. subst (λ v. Found (l.Object p fs) (within_custom file_scalar m v) r path) (sym (value_object p fs))
         (any_object_found n (in_custom n) vs p fs h m r path (some_refused (object_at (coerced n s) (any_entries (firsts (map (literal_field vs) fs)))) r path (sym (coerced_object n s None vs p fs) ∙ i)));
-    list = λ p xs h i. subst (λ v. Found (l.List p xs) (within_custom m v) r path) (sym (value_list p xs))
+    list = λ p xs h i. subst (λ v. Found (l.List p xs) (within_custom file_scalar m v) r path) (sym (value_list p xs))
         (any_list_found n (in_custom n) vs p xs h m r path (some_refused (array_of (item_at (coerced n s) None) (map (literal vs) xs)) r path (sym (coerced_list n s None vs p xs) ∙ i)));
     variable = λ p v h. absurd (no_variable p v h);
-    int = λ p t h i. subst (λ v. Found (l.Int p t) (within_custom m v) r path) (sym (value_int p t)) (int_found p t (is_whole 63 t) (sym (coerced_int n s None vs p t) ∙ i));
-    float = λ p t h i. subst (λ v. Found (l.Float p t) (within_custom m v) r path) (sym (value_float p t))
-        (found_here (l.Float p t) (values.float p) (value_float p t) r path m (at_once Data reason.WrongKind r path refl (some_refused (as_custom fraction) r path (sym (coerced_float n s None vs p t) ∙ i))));
-    string = λ p t h i. absurd (not_value (json.string t) r path (some_refused (as_custom (string_text t)) r path (sym (coerced_string n s None vs p t) ∙ i)));
-    boolean = λ p b h i. absurd (not_value (json.boolean b) r path (some_refused (as_custom (truth b)) r path (sym (coerced_boolean n s None vs p b) ∙ i)));
+    int = λ p t h i. subst (λ v. Found (l.Int p t) (within_custom file_scalar m v) r path) (sym (value_int p t)) (any_single_found (l.Int p t) (values.int p t) (of_int t) (value_int p t) (scalar_takes_int t file_scalar) (int_taken t file_scalar) m r path (sym (coerced_int n s None vs p t) ∙ i));
+    float = λ p t h i. subst (λ v. Found (l.Float p t) (within_custom file_scalar m v) r path) (sym (value_float p t))
+        (any_single_found (l.Float p t) (values.float p t) (fraction (real_of t)) (value_float p t) (scalar_takes_float t file_scalar) (scalar_fraction t file_scalar) m r path (sym (coerced_float n s None vs p t) ∙ i));
+    string = λ p t h i. absurd (not_value (json.string t) r path (sym (any_text (is_open s) t) ∙ some_refused (as_any (is_open s) (string_text t)) r path (sym (coerced_string n s None vs p t) ∙ i)));
+    boolean = λ p b h i. absurd (not_value (json.boolean b) r path (sym (any_truth (is_open s) b) ∙ some_refused (as_any (is_open s) (truth b)) r path (sym (coerced_boolean n s None vs p b) ∙ i)));
     null = λ p h i. absurd (not_value json.null r path (some_refused (null_at None) r path (sym (coerced_null n s None vs p) ∙ i)));
-    enum = λ p k h i. absurd (not_value (json.string k) r path (some_refused (as_custom (enum_name k)) r path (sym (coerced_enum n s None vs p k) ∙ i)));
-  } x is e where
-    int_found : (p : Place) (t : List ℕ) (b : Bool) → some (as_custom (of_whole (if b then Some (signed_digits_value 10 t) else None))) ≡ refused r path
-        → Found (l.Int p t) (if b then [] else bad rule.V18 p m) r path
-    int_found p t true i = absurd (not_value (json.number (of_integer (signed_digits_value 10 t))) r path (some_refused (as_custom (of_whole (Some (signed_digits_value 10 t)))) r path i))
-    int_found p t false i = found_here (l.Int p t) (values.int p t) (value_int p t) r path m (at_once Data reason.OutOfRange r path refl (some_refused (as_custom (of_whole None)) r path i))
+    enum = λ p k h i. absurd (not_value (json.string k) r path (sym (any_name (is_open s) k) ∙ some_refused (as_any (is_open s) (enum_name k)) r path (sym (coerced_enum n s None vs p k) ∙ i)));
+  } x is e
 
   -- at a type
   at_type_found : HasGoodFields s → (n : ℕ) → AtType n
@@ -750,9 +780,9 @@ module _ (s : Schema) where
         (some_refused (list_by (coerced n s) (map (literal vs) xs) (items_expected s (Some t))) r path (sym (coerced_list n s (Some t) vs p xs) ∙ i)));
     variable = λ p v h. absurd (no_variable p v h);
     int = λ p w h i. subst (λ v. Found (l.Int p w) (misfits look t v) r path) (sym (value_int p w))
-        (single_found (l.Int p w) (values.int p w) (of_whole (whole_number w)) (value_int p w) (int_alike p w) t known r path (sym (coerced_int n s (Some t) vs p w) ∙ i));
+        (single_found (l.Int p w) (values.int p w) (of_int w) (value_int p w) (int_alike p w) t known r path (sym (coerced_int n s (Some t) vs p w) ∙ i));
     float = λ p w h i. subst (λ v. Found (l.Float p w) (misfits look t v) r path) (sym (value_float p w))
-        (single_found (l.Float p w) (values.float p) fraction (value_float p w) (float_alike p) t known r path (sym (coerced_float n s (Some t) vs p w) ∙ i));
+        (single_found (l.Float p w) (values.float p w) (fraction (real_of w)) (value_float p w) (float_alike p w) t known r path (sym (coerced_float n s (Some t) vs p w) ∙ i));
     string = λ p w h i. subst (λ v. Found (l.String p w) (misfits look t v) r path) (sym (value_string p w))
         (single_found (l.String p w) (values.string p) (string_text w) (value_string p w) (string_alike p w) t known r path (sym (coerced_string n s (Some t) vs p w) ∙ i));
     boolean = λ p b h i. subst (λ v. Found (l.Boolean p b) (misfits look t v) r path) (sym (value_boolean p b))

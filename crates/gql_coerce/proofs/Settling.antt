@@ -1,11 +1,11 @@
 -- Every input comes to something where the defaults that it takes do.
-use Rattle.std.proofs.Common.{◌≡◌, ◌+◌, inl, inr, ℕ, zero, suc, List, [], ◌∷◌, Bool, true, false, true≢false, ◌&&◌, not, if◌then◌else◌, map, Option, Some, None, option_map, is_some, unwrap_or, Contains, find, bytes_eq, refl, ap, sym, subst, ◌∙◌}
+use Rattle.std.proofs.Common.{◌≡◌, ◌+◌, inl, inr, ℕ, zero, suc, List, [], ◌∷◌, Bool, true, false, true≢false, ◌&&◌, not, if◌then◌else◌, map, Option, Some, None, option_map, is_some, unwrap_or, Contains, find, bytes_eq, Float, option_and_then, refl, ap, sym, subst, ◌∙◌}
 use Rattle.std.proofs.Math.Nat.{suc-add}
 use Rattle.std.specs.Prelude.{⊤}
 use Rattle.gql_ast.specs.declared.literal.Literal.{Literal}
 use Rattle.gql_ast.specs.declared.type_system.InputValueDefinition.{InputValueDefinition}
 use Rattle.gql_built_in.specs.declared.sited.Sited.{Sited}
-use Rattle.gql_inputs.specs.InputTypes.{is_custom_scalar, is_non_null, input_type, name_of, scalar_named}
+use Rattle.gql_inputs.specs.InputTypes.{custom_scalar, is_custom_scalar, is_non_null, is_open, input_type, name_of, scalar_named}
 use Rattle.gql_inputs.specs.declared.scalar.Scalar.{Scalar}
 use Rattle.gql_inputs.specs.declared.scalar.Scalar.TheVariants as scalar
 use Rattle.gql_types.specs.Written.{Written, written}
@@ -14,8 +14,8 @@ use Rattle.gql_types.specs.declared.kind.TypeKind.TheVariants as kind
 use Rattle.gql_types.specs.declared.schema.Schema.{Schema}
 use Rattle.gql_types.specs.declared.schema_type.SchemaType.{SchemaType}
 use Rattle.serde_json.specs.Data as json
-use Rattle.serde_json.specs.Data.{Data}
-use Rattle.serde_json.specs.Find.{as_null, of_integer}
+use Rattle.serde_json.specs.Data.{Data, Num}
+use Rattle.serde_json.specs.Find.{as_null, of_float, of_integer}
 use Rattle.serde_json.specs.View.{items_of}
 use Rattle.gql_coerce.specs.Coercion.{coerced, at_level, Expected, nothing, anything, this, Entry, Entries, are, unknown, no_object, any_entry, any_entries, defined_entry, is_defined, unless_unknown, entries_at_kind, entries_by, entries_for, once, item_at, items_from, array_of, list_by, or_null, default_of, or_default, if_given, entry_at, member_at, object_at, put_all, under, null_at, given_at, single_at, as_type, items_expected, is_list_expected, one_in}
 use Rattle.gql_coerce.specs.Comes.{Eventually}
@@ -23,7 +23,7 @@ use Rattle.gql_coerce.specs.Defaults.{is_absent, is_left_out, Takes, here, in_fi
 use Rattle.gql_coerce.specs.Frames.{Inner}
 use Rattle.gql_coerce.specs.Inputs.{Single, whole, out_of_range, fraction, text, json_text, truth, name, Input, Inputs, no_inputs, input, Fields, no_fields, field, Field, absent, given, null, single, list, object, all_inputs, all_fields, may_be_list, literal}
 use Rattle.gql_coerce.specs.Outcomes.{Reached, value, refused, too_deep, after, within, all, some}
-use Rattle.gql_coerce.specs.Scalars.{wrong_kind, past_range, is_of_32_bits, as_int, as_id, as_string, as_boolean, as_custom, as_scalar, is_value_of, of_enum, as_enum, as_kind}
+use Rattle.gql_coerce.specs.Scalars.{wrong_kind, past_range, is_of_32_bits, number_or_past, of_real, as_int, as_id, as_string, as_boolean, as_float, as_custom, as_open, as_scalar, is_value_of, of_enum, as_enum, as_kind}
 use Rattle.gql_coerce.specs.declared.refusal.Reason.TheVariants as reason
 use Rattle.gql_coerce.specs.declared.refusal.Segment.{Segment}
 use Rattle.gql_coerce.specs.declared.refusal.Segment.TheVariants.{Index, Key}
@@ -93,8 +93,8 @@ none_at inner s (object fs) e is = absurd (true≢false (sym is ∙ once_none e 
 
 leaf_settled : (x : Single) → Settled (as_custom x)
 leaf_settled (whole z) = refl
-leaf_settled out_of_range = refl
-leaf_settled fraction = refl
+leaf_settled (out_of_range x) = refl
+leaf_settled (fraction x) = refl
 leaf_settled (text t) = refl
 leaf_settled (json_text t) = refl
 leaf_settled (truth b) = refl
@@ -102,8 +102,8 @@ leaf_settled (name n) = refl
 
 int_settled : (x : Single) → Settled (as_int x)
 int_settled (whole z) = unless_settled (is_of_32_bits z) (value (json.number (of_integer z))) past_range refl refl
-int_settled out_of_range = refl
-int_settled fraction = refl
+int_settled (out_of_range x) = refl
+int_settled (fraction x) = refl
 int_settled (text t) = refl
 int_settled (json_text t) = refl
 int_settled (truth b) = refl
@@ -111,8 +111,8 @@ int_settled (name n) = refl
 
 id_settled : (x : Single) → Settled (as_id x)
 id_settled (whole z) = refl
-id_settled out_of_range = refl
-id_settled fraction = refl
+id_settled (out_of_range x) = refl
+id_settled (fraction x) = refl
 id_settled (text t) = refl
 id_settled (json_text t) = refl
 id_settled (truth b) = refl
@@ -120,8 +120,8 @@ id_settled (name n) = refl
 
 string_settled : (x : Single) → Settled (as_string x)
 string_settled (whole z) = refl
-string_settled out_of_range = refl
-string_settled fraction = refl
+string_settled (out_of_range x) = refl
+string_settled (fraction x) = refl
 string_settled (text t) = refl
 string_settled (json_text t) = refl
 string_settled (truth b) = refl
@@ -129,12 +129,37 @@ string_settled (name n) = refl
 
 boolean_settled : (x : Single) → Settled (as_boolean x)
 boolean_settled (whole z) = refl
-boolean_settled out_of_range = refl
-boolean_settled fraction = refl
+boolean_settled (out_of_range x) = refl
+boolean_settled (fraction x) = refl
 boolean_settled (text t) = refl
 boolean_settled (json_text t) = refl
 boolean_settled (truth b) = refl
 boolean_settled (name n) = refl
+
+past_settled : (n : Option Num) → Settled (number_or_past n)
+past_settled None = refl
+past_settled (Some n) = refl
+
+real_settled : (x : Option Float) → Settled (of_real x)
+real_settled x = past_settled (option_and_then of_float x)
+
+float_settled : (x : Single) → Settled (as_float x)
+float_settled (whole z) = refl
+float_settled (out_of_range x) = real_settled x
+float_settled (fraction x) = real_settled x
+float_settled (text t) = refl
+float_settled (json_text t) = refl
+float_settled (truth b) = refl
+float_settled (name n) = refl
+
+open_settled : (x : Single) → Settled (as_open x)
+open_settled (whole z) = refl
+open_settled (out_of_range x) = real_settled x
+open_settled (fraction x) = real_settled x
+open_settled (text t) = refl
+open_settled (json_text t) = refl
+open_settled (truth b) = refl
+open_settled (name n) = refl
 
 scalar_settled : (k : Scalar) (x : Single) → Settled (as_scalar k x)
 scalar_settled scalar.Int x = int_settled x
@@ -142,34 +167,36 @@ scalar_settled scalar.Id x = id_settled x
 scalar_settled scalar.String x = string_settled x
 scalar_settled scalar.Boolean x = boolean_settled x
 scalar_settled scalar.Custom x = leaf_settled x
+scalar_settled scalar.Float x = float_settled x
+scalar_settled scalar.Open x = open_settled x
 
 name_settled : (t : SchemaType) (n : List ℕ) → Settled (of_enum t n)
 name_settled t n = unless_settled (is_value_of t n) (value (json.string n)) (refused reason.NotInEnum []) refl refl
 
 enum_settled : (t : SchemaType) (x : Single) → Settled (as_enum t x)
 enum_settled t (whole z) = refl
-enum_settled t out_of_range = refl
-enum_settled t fraction = refl
+enum_settled t (out_of_range x) = refl
+enum_settled t (fraction x) = refl
 enum_settled t (text n) = refl
 enum_settled t (json_text n) = name_settled t n
 enum_settled t (truth b) = refl
 enum_settled t (name n) = name_settled t n
 
-kind_settled : (t : SchemaType) (k : TypeKind) (x : Single) → Settled (as_kind t k x)
-kind_settled t kind.Scalar x = scalar_settled (scalar_named (name_of t)) x
-kind_settled t kind.Enum x = enum_settled t x
-kind_settled t kind.InputObject x = refl
-kind_settled t kind.Object x = refl
-kind_settled t kind.Interface x = refl
-kind_settled t kind.Union x = refl
+kind_settled : (floats : Bool) (t : SchemaType) (k : TypeKind) (x : Single) → Settled (as_kind floats t k x)
+kind_settled floats t kind.Scalar x = scalar_settled (scalar_named floats (name_of t)) x
+kind_settled floats t kind.Enum x = enum_settled t x
+kind_settled floats t kind.InputObject x = refl
+kind_settled floats t kind.Object x = refl
+kind_settled floats t kind.Interface x = refl
+kind_settled floats t kind.Union x = refl
 
-type_settled : (t : Option SchemaType) (x : Single) → Settled (as_type t x)
-type_settled None x = refl
-type_settled (Some t) x = kind_settled t t.kind x
+type_settled : (floats : Bool) (t : Option SchemaType) (x : Single) → Settled (as_type floats t x)
+type_settled floats None x = refl
+type_settled floats (Some t) x = kind_settled floats t t.kind x
 
 single_settled : (s : Schema) (e : Option Written) (x : Single) → Settled (single_at s e x)
-single_settled s None x = leaf_settled x
-single_settled s (Some t) x = type_settled (input_type s t) x
+single_settled s None x = scalar_settled (custom_scalar (is_open s)) x
+single_settled s (Some t) x = type_settled (is_open s) (input_type s t) x
 
 -- ---- what an object is made of comes from what it gives
 

@@ -6,7 +6,7 @@ use Rattle.std.specs.Prelude.{◌&&◌, ℕ, zero, suc, List, [], ◌∷◌, Boo
 use Rattle.gql_ast.specs.declared.literal.Literal.{Literal}
 use Rattle.gql_ast.specs.declared.type_system.InputValueDefinition.{InputValueDefinition}
 use Rattle.gql_built_in.specs.declared.sited.Sited.{Sited}
-use Rattle.gql_inputs.specs.InputTypes.{item_of, is_custom_scalar, is_list, is_non_null, input_type}
+use Rattle.gql_inputs.specs.InputTypes.{item_of, is_custom_scalar, is_list, is_non_null, is_open, input_type}
 use Rattle.gql_types.specs.Written.{Written, named, listed, required, written}
 use Rattle.gql_types.specs.declared.kind.TypeKind.{TypeKind}
 use Rattle.gql_types.specs.declared.kind.TypeKind.TheVariants as kind
@@ -20,7 +20,7 @@ use Rattle.gql_coerce.specs.declared.refusal.Reason.TheVariants as reason
 use Rattle.gql_coerce.specs.declared.refusal.Segment.TheVariants as segment
 use Rattle.gql_coerce.specs.Inputs.{Single, Input, Field, absent, given, null, single, list, object, all_inputs, all_fields, literal, may_be_list}
 use Rattle.gql_coerce.specs.Outcomes.{Reached, value, refused, too_deep, after, within, all, some}
-use Rattle.gql_coerce.specs.Scalars.{as_kind, as_custom, wrong_kind}
+use Rattle.gql_coerce.specs.Scalars.{as_any, as_kind, wrong_kind}
 
 -- ---- null, and the values of variables
 
@@ -49,15 +49,15 @@ once (Some t) o = after o (λ v. value (option_map (one_in t) v))
 
 -- ---- values without parts (3.5, 3.9)
 
--- a value without parts, at a type, if it is known
-abbrev pub as_type : Option SchemaType → Single → Reached Data
-as_type None x = wrong_kind
-as_type (Some t) x = as_kind t t.kind x
+-- a value without parts, at a type, if it is known; `floats` says whether Float is a type
+abbrev pub as_type : Bool → Option SchemaType → Single → Reached Data
+as_type floats None x = wrong_kind
+as_type floats (Some t) x = as_kind floats t t.kind x
 
--- a value without parts, at a type or within a custom scalar
+-- a value without parts, at a type or within a scalar of a schema file
 abbrev pub single_at : Schema → Option Written → Single → Reached Data
-single_at s None x = as_custom x
-single_at s (Some t) x = as_type (input_type s t) x
+single_at s None x = as_any (is_open s) x
+single_at s (Some t) x = as_type (is_open s) (input_type s t) x
 
 -- ---- lists (3.11)
 

@@ -1,13 +1,15 @@
 -- Worked examples of the definitions.
-use Rattle.std.specs.Prelude.{◌≡◌, ◌∷◌, [], pos, negsuc, codes, refl, Option, Some}
+use Rattle.std.specs.Prelude.{◌≡◌, ◌∷◌, [], false, pos, negsuc, codes, refl, Float, Option, Some, None}
+use Rattle.std.specs.Float.{float_is_finite}
+use Rattle.std.specs.Float.Ieee.{fin}
 use Rattle.gql_types.specs.Written.{Written, named, listed, required}
 use Rattle.serde_json.specs.Data as json
 use Rattle.serde_json.specs.Data.{Data, Num}
 use Rattle.gql_coerce.specs.Coercion.{one_in, item_at, array_of, null_at, object_at, unknown}
-use Rattle.gql_coerce.specs.Inputs.{Input, whole, fraction, single, null}
+use Rattle.gql_coerce.specs.Inputs.{Input, whole, out_of_range, fraction, single, null}
 use Rattle.gql_coerce.specs.Outcomes.{Reached, value, refused, some}
 use Rattle.gql_coerce.specs.Paths.{path_text}
-use Rattle.gql_coerce.specs.Scalars.{as_int, as_custom}
+use Rattle.gql_coerce.specs.Scalars.{as_int, as_custom, as_float, as_open}
 use Rattle.gql_coerce.specs.declared.refusal.Reason.TheVariants as reason
 use Rattle.gql_coerce.specs.declared.refusal.Segment.TheVariants as segment
 
@@ -21,8 +23,25 @@ least_int : as_int (whole (negsuc 2147483647))
     ≡ value (json.number (json.negative (negsuc 2147483647)))
 least_int = refl
 
-no_fraction : as_custom fraction ≡ refused reason.WrongKind []
-no_fraction = refl
+no_fraction : (x : Option Float) → as_custom (fraction x) ≡ refused reason.WrongKind []
+no_fraction x = refl
+
+-- 0.5 is a Float, and so is each integer of 64 bits, as it is
+a_half : as_float (fraction (Some (fin false 1 (negsuc 0))))
+    ≡ value (json.number (json.float (fin false 1 (negsuc 0))))
+unfolding float_is_finite
+a_half = refl
+
+a_whole_float : as_float (whole (pos 9007199254740993))
+    ≡ value (json.number (json.unsigned 9007199254740993))
+a_whole_float = refl
+
+-- a number without a finite nearest double is refused by each scalar that takes numbers
+no_infinity : as_open (fraction None) ≡ refused reason.OutOfRange []
+no_infinity = refl
+
+past_doubles : as_float (out_of_range None) ≡ refused reason.OutOfRange []
+past_doubles = refl
 
 -- `1` at `[[Int!]!]`
 one_of_one : (n : Num)

@@ -30,7 +30,7 @@ abbrev mutual
   has_variable (variable p name) = true
   has_variable (null p) = false
   has_variable (int p text) = false
-  has_variable (float p) = false
+  has_variable (float p text) = false
   has_variable (string p) = false
   has_variable (boolean p) = false
   has_variable (enum p name) = false

@@ -1,22 +1,22 @@
 -- Inputs, as coercion sees them: the literals of a document (GraphQL specification, 2.9) and the
 -- values of JSON, in one form.
-use Rattle.std.specs.Prelude.{ℕ, ℤ, List, [], ◌∷◌, Bool, true, false, not, filter, bytes_eq, Option, Some, None}
+use Rattle.std.specs.Prelude.{ℕ, ℤ, List, [], ◌∷◌, Bool, true, false, not, filter, bytes_eq, Float, Option, Some, None}
 use Rattle.gql_ast.specs.declared.literal.Literal.{Literal, fold-Literal}
 use Rattle.gql_ast.specs.declared.literal.ObjectField.{ObjectField}
 use Rattle.gql_ast.specs.declared.literal.Literal.TheOpen.{Literal-F, ObjectField-F}
-use Rattle.gql_inputs.specs.Numbers.{whole_number}
+use Rattle.gql_inputs.specs.Numbers.{real_of, whole_number}
 use Rattle.serde_json.specs.Data as json
 use Rattle.serde_json.specs.Data.{Num, Data, Items, Members}
-use Rattle.serde_json.specs.Find.{as_i64, get}
+use Rattle.serde_json.specs.Find.{as_i64, get, to_float}
 
 -- a value without parts
 pub data Single : Type 0 where
   -- an integer of 64 signed bits
   whole : ℤ → Single
-  -- a literal integer past them
-  out_of_range : Single
-  -- another number
-  fraction : Single
+  -- a literal integer past them, by its nearest double if that is finite
+  out_of_range : Option Float → Single
+  -- another number, by the same
+  fraction : Option Float → Single
   -- a string of a document, and one of JSON
   text : List ℕ → Single
   json_text : List ℕ → Single
@@ -85,17 +85,21 @@ abbrev pub of_variable : Option Data → Input
 of_variable None = absent
 of_variable (Some d) = given d
 
--- a literal integer, if it has 64 bits
-abbrev pub of_whole : Option ℤ → Single
-of_whole None = out_of_range
-of_whole (Some z) = whole z
+-- a literal integer, if it has 64 bits, and its nearest double if that is finite
+abbrev pub of_whole : Option ℤ → Option Float → Single
+of_whole None x = out_of_range x
+of_whole (Some z) x = whole z
+
+-- a literal integer
+abbrev pub of_int : List ℕ → Single
+of_int t = of_whole (whole_number t) (real_of t)
 
 -- a literal of this form, from its parts as inputs; `vs` has the values of the variables
 abbrev pub literal_at : Data → Literal-F Input Field → Input
 literal_at vs (Literal-F.Variable place n) = of_variable (get n vs)
 literal_at vs (Literal-F.Null place) = null
-literal_at vs (Literal-F.Int place t) = single (of_whole (whole_number t))
-literal_at vs (Literal-F.Float place t) = single fraction
+literal_at vs (Literal-F.Int place t) = single (of_int t)
+literal_at vs (Literal-F.Float place t) = single (fraction (real_of t))
 literal_at vs (Literal-F.String place t) = single (text t)
 literal_at vs (Literal-F.Boolean place b) = single (truth b)
 literal_at vs (Literal-F.Enum place n) = single (name n)
@@ -116,17 +120,21 @@ literal_field vs f = record { name = f.name.text; value = literal vs f.value }
 
 -- ---- the values of JSON
 
--- a number of JSON, if it is an integer of 64 bits
-abbrev pub of_number : Option ℤ → Single
-of_number None = fraction
-of_number (Some z) = whole z
+-- a number of JSON, if it is an integer of 64 bits, and its double
+abbrev pub of_num_by : Option ℤ → Float → Single
+of_num_by None x = fraction (Some x)
+of_num_by (Some z) x = whole z
+
+-- a number of JSON
+abbrev pub of_number : Num → Single
+of_number n = of_num_by (as_i64 n) (to_float n)
 
 -- a value of JSON, its items, and its members
 abbrev mutual
   pub json_input : Data → Input
   json_input json.null = null
   json_input (json.boolean b) = single (truth b)
-  json_input (json.number n) = single (of_number (as_i64 n))
+  json_input (json.number n) = single (of_number n)
   json_input (json.string t) = single (json_text t)
   json_input (json.array ds) = list (json_inputs ds)
   json_input (json.object ms) = object (json_fields ms)

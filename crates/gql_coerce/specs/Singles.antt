@@ -6,8 +6,8 @@ use Rattle.gql_coerce.specs.declared.single.Single.TheVariants as single
 -- a value without parts
 abbrev pub single_of : ASingle → Single
 single_of (single.Whole z) = whole z
-single_of single.OutOfRange = out_of_range
-single_of single.Fraction = fraction
+single_of (single.OutOfRange x) = out_of_range x
+single_of (single.Fraction x) = fraction x
 single_of (single.Text t) = text t.now
 single_of (single.JsonText t) = json_text t.now
 single_of (single.Truth b) = truth b

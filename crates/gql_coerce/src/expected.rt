@@ -14,9 +14,9 @@ use crate::coerced_value::CoercedValue;
 use crate::copies::copy_of;
 use crate::ones::in_lists;
 use crate::refusal::Reason;
-use crate::single::{Single, as_custom, as_type};
+use crate::single::{Single, as_any, as_type};
 use gql_ast::{InputValueDefinition, TypeRef};
-use gql_inputs::{input_type, is_custom_scalar, is_list, is_non_null, item_of};
+use gql_inputs::{input_type, is_custom_scalar, is_list, is_non_null, is_open, item_of};
 use gql_types::{Schema, SchemaType};
 use serde_json::Value;
 use std::alloc::{AllocError, Global};
@@ -59,9 +59,9 @@ fn by_type(
         (option_map written (option_copied expected.entry)) (single_of single.now))) }
 {
     match expected {
-        None => as_custom(alloc, single),
+        None => as_any(alloc, is_open(schema), single),
         Some(of_type) => match input_type(schema, of_type) {
-            Some(found) => as_type(alloc, found, single),
+            Some(found) => as_type(alloc, schema, found, single),
             None => Ok(refused(alloc, Reason::WrongKind)),
         },
     }

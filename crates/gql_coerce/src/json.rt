@@ -2,7 +2,6 @@
 ghost use Rattle.std.specs.Prelude.{◌≡◌, ℕ, suc, IfOk, option_map};
 ghost use Rattle.std.specs.Option.{option_copied};
 ghost use Rattle.gql_types.specs.Written.{written};
-ghost use Rattle.serde_json.specs.Find.{as_i64};
 ghost use Rattle.serde_json.specs.View.{view, number_view};
 ghost use Rattle.gql_coerce.specs.Coercion.{coerced as levels_of};
 ghost use Rattle.gql_coerce.specs.Frames.{focus_at};
@@ -20,11 +19,11 @@ use serde_json::{Number, Value};
 use std::alloc::{AllocError, Global};
 
 fn number(number: &Number) -> Single<'_>
-    ensures { single_of result ≡ of_number (as_i64 (number_view number.now)) }
+    ensures { single_of result ≡ of_number (number_view number.now) }
 {
     match number.as_i64() {
         Some(number) => Single::Whole(number),
-        None => Single::Fraction,
+        None => Single::Fraction(number.as_f64()),
     }
 }
 

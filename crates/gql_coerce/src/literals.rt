@@ -1,14 +1,13 @@
 //! Literals, by their forms (GraphQL specification, 3.5 to 3.12).
 ghost use Rattle.std.specs.Prelude.{◌≡◌, ℕ, suc, false, is_some, IfOk, IfSome, Option, Some, option_map};
 ghost use Rattle.std.specs.Option.{option_copied};
-ghost use Rattle.gql_inputs.specs.Numbers.{whole_number};
 ghost use Rattle.gql_types.specs.Written.{Written, written};
 ghost use Rattle.gql_types.specs.declared.schema.Schema.{Schema as ASchema};
 ghost use Rattle.serde_json.specs.Find.{as_null, get};
 ghost use Rattle.serde_json.specs.View.{view};
 ghost use Rattle.gql_coerce.specs.Coercion.{coerced as levels_of};
 ghost use Rattle.gql_coerce.specs.Frames.{focus_at};
-ghost use Rattle.gql_coerce.specs.Inputs.{literal, of_whole, may_be_list as input_may_be_list};
+ghost use Rattle.gql_coerce.specs.Inputs.{literal, of_int, may_be_list as input_may_be_list};
 ghost use Rattle.gql_coerce.specs.Outcomes.{value as given};
 ghost use Rattle.gql_coerce.specs.Scopes.{values_in};
 ghost use Rattle.gql_coerce.specs.Singles.{single_of};
@@ -21,17 +20,17 @@ use crate::frame::Focus;
 use crate::part::{ListItems, ObjectFields};
 use crate::single::Single;
 use gql_ast::{Literal, Shared, TypeRef};
-use gql_inputs::whole_number;
+use gql_inputs::{real_of, whole_number};
 use gql_types::Schema;
 use serde_json::Value;
 use std::alloc::{AllocError, Global};
 
 fn whole(text: &str) -> Single<'_>
-    ensures { single_of result ≡ of_whole (whole_number text.now) }
+    ensures { single_of result ≡ of_int text.now }
 {
     match whole_number(text) {
         Some(number) => Single::Whole(number),
-        None => Single::OutOfRange,
+        None => Single::OutOfRange(real_of(text)),
     }
 }
 
@@ -127,7 +126,14 @@ pub fn focus_of<'v>(
         Literal::Int { text, .. } => {
             single_focus(alloc, schema, &whole(text.as_str()), expected)
         }
-        Literal::Float { .. } => single_focus(alloc, schema, &Single::Fraction, expected),
+        Literal::Float { text, .. } => {
+            single_focus(
+                alloc,
+                schema,
+                &Single::Fraction(real_of(text.as_str())),
+                expected,
+            )
+        }
         Literal::String { value, .. } => {
             single_focus(alloc, schema, &Single::Text(value.as_str()), expected)
         }

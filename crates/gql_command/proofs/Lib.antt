@@ -5,3 +5,5 @@ pub mod Numbers
 pub mod PlainServe
 pub mod ServeOptions
 pub mod ServeWords
+mod Profiling
+mod Joining

@@ -1,2 +1,5 @@
 pub mod CommandLine
 pub mod Grammar
+pub mod Options
+pub mod Profiled
+pub mod Profiles

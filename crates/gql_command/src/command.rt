@@ -5,11 +5,14 @@ ghost use Rattle.clap.specs.Words.{kind_of};
 ghost use Rattle.gql_command.specs.CommandLine.{Answers, Asks, GivesOrMemory, HasHelpFlag};
 ghost use Rattle.gql_command.specs.CommandLine.{HasRanges, HasVersionFlag, HelpOrMemory};
 ghost use Rattle.gql_command.specs.CommandLine.{VersionOrMemory, word_texts};
-ghost use Rattle.gql_command.specs.Grammar.{FollowsGrammar, IsAnswerTo};
+ghost use Rattle.gql_command.specs.Grammar.{FollowsGrammar, IsAnswerTo, IsRefusal};
+ghost use Rattle.gql_command.specs.Profiled.{AnswersInProfile, GivesInProfile, IsJoined};
 
 use crate::grammar::grammar;
+use crate::profile::split;
 use crate::serve::serve;
 use clap::error::ErrorKind;
+use gql_ast::Profile;
 use std::alloc::{AllocError, Global};
 
 /// What a command line asks for.
@@ -101,4 +104,58 @@ pub fn read_command(alloc: Global, words: &[String]) -> Result<Command, CommandF
         return Err(CommandFault::Memory);
     };
     read_texts(alloc, texts.as_slice())
+}
+
+/// A command, and the profile of its registry.
+#[derive(Clone, Copy, Debug, PartialEq, Eq)]
+pub struct ProfiledCommand {
+    pub command: Command,
+    pub profile: Profile,
+}
+
+fn no_profile(alloc: Global) -> CommandFault
+    ensures { IsRefusal result }
+{
+    let text = "error: a profile is `whole-numbers` or `october-2021`\n";
+    match String::from_str(alloc, text) {
+        Ok(text) => CommandFault::Refused(text),
+        Err(_) => CommandFault::Memory,
+    }
+}
+
+/// A command, or why there is none, and the profile that is named, if one is.
+fn in_profile(
+    alloc: Global,
+    command: Result<Command, CommandFault>,
+    profile: Option<Profile>,
+) -> Result<ProfiledCommand, CommandFault>
+    ensures { IsJoined command profile result }
+{
+    match command {
+        Ok(command) => match profile {
+            Some(profile) => Ok(ProfiledCommand { command, profile }),
+            None => Err(no_profile(alloc)),
+        },
+        Err(fault) => Err(fault),
+    }
+}
+
+/// What the words of a command line ask for, the program's name first: the command of the words
+/// without `--profile NAME`, and the profile of that name.
+pub fn read_profiled_command(
+    alloc: Global,
+    words: &[String],
+) -> Result<ProfiledCommand, CommandFault>
+    ensures gives { (c : ProfiledCommand) → GivesInProfile (word_texts words.now) c result }
+    ensures ranges { IfOk result (λ c. HasRanges c.command) }
+    ensures plain { AnswersInProfile (word_texts words.now) result }
+{
+    let Ok(texts) = texts(alloc, words) else {
+        return Err(CommandFault::Memory);
+    };
+    let Ok(parts) = split(alloc, texts.as_slice()) else {
+        return Err(CommandFault::Memory);
+    };
+    let command = read_texts(alloc, parts.rest.as_slice());
+    in_profile(alloc, command, parts.profile)
 }

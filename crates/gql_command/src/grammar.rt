@@ -28,8 +28,19 @@ Requests:
                           with operationName and variables, or {}
 PUT and DELETE may expect a revision, as in /schema/NAME?revision=3.
 
+Profiles, by --profile NAME after a command:
+  whole-numbers           no Float, no subscriptions; pipe and serve have it if
+                          none is named
+  october-2021            with both, and files of up to 4 MiB; check, usage and
+                          push have it if none is named
+
 Status: 0 all requests are answered, 1 a read, a write or the network failed,
 2 a bad command line, 3 the input ended within a request, 4 out of memory";
+
+/// The end of the help of `pipe` and `serve`. The option is taken before clap reads the others.
+const AFTER_SERVICE_HELP: &str = "\
+      --profile <NAME>  What is served: whole-numbers, or october-2021 with Float, subscriptions and
+                        large files; whole-numbers if left out";
 
 fn port<'a>(alloc: Global) -> Arg<'a>
     ensures option { rule_of result ≡ port_option }
@@ -72,6 +83,7 @@ fn serve<'a>(alloc: Global) -> Result<Command<'a>, AllocError>
 {
     Command::new(alloc, "serve")
         .about("Answers HTTP/1.1 requests over connections to 127.0.0.1, many at one time")
+        .after_help(AFTER_SERVICE_HELP)
         .arg(port(alloc))?
         .arg(connections(alloc))?
         .arg(at_once(alloc))
@@ -81,9 +93,9 @@ fn serve<'a>(alloc: Global) -> Result<Command<'a>, AllocError>
 pub fn grammar<'a>(alloc: Global) -> Result<Command<'a>, AllocError>
     ensures { IfOk result (λ g. app_of g ≡ command_line) }
 {
-    let pipe = Command::new(alloc, "pipe").about(
-        "Answers the HTTP/1.1 requests of standard input on standard output",
-    );
+    let pipe = Command::new(alloc, "pipe")
+        .about("Answers the HTTP/1.1 requests of standard input on standard output")
+        .after_help(AFTER_SERVICE_HELP);
     Command::new(alloc, "gqlreg")
         .version(VERSION)
         .about("A registry of a GraphQL schema and of operations, over HTTP/1.1")

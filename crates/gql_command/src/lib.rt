@@ -3,6 +3,8 @@
 
 mod command;
 mod grammar;
+mod profile;
 mod serve;
 
-pub use command::{Command, CommandFault, read_command};
+pub use command::{Command, CommandFault, ProfiledCommand, read_command, read_profiled_command};
+pub use profile::{PROFILES, profile_named};

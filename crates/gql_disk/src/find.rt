@@ -1,15 +1,10 @@
 //! Finds the files of a folder that are those of a registry, and reads them.
 
 use crate::fault::{DiskFault, refused, unread};
-use gql_folder::{GivenFile, Role, role_of};
-use std::alloc::AllocError;
+use gql_ast::{FileSide, Limits};
+use gql_folder::{GivenFile, Role, role_of, with_commas};
+use std::alloc::{AllocError, Global};
 use std::fs;
-
-/// The greatest number of bytes of a file.
-const MAX_FILE_BYTES: u64 = 65_536;
-
-/// The greatest number of bytes of the data.
-const MAX_DATA_BYTES: u64 = 262_144;
 
 /// The greatest number of bytes of a manifest.
 const MAX_MANIFEST_BYTES: u64 = 67_108_864;
@@ -36,17 +31,30 @@ fn joined(rt: &HostRuntime, folder: &str, path: &str) -> Result<String, AllocErr
     Ok(joined)
 }
 
-/// The greatest number of bytes of a file of this role, and the reason if it has more.
-fn limit_of(role: &Role) -> (u64, &'static str) {
+/// The greatest number of bytes of a file of this role. The data are the body of a request.
+fn limit_of(role: &Role, limits: &Limits) -> usize {
     match role {
-        Role::Data => (MAX_DATA_BYTES, "has more than 262,144 bytes"),
-        _ => (MAX_FILE_BYTES, "has more than 65,536 bytes"),
+        Role::Data => limits.body,
+        Role::File(FileSide::Schema, _) => limits.schema_file,
+        _ => limits.document_file,
     }
 }
 
-/// Reads a file of the folder at a path below it, if it is one of a registry.
+/// The fault of a file that has more bytes than this.
+fn too_long(alloc: Global, path: &str, limit: usize) -> DiskFault {
+    let Ok(limit) = with_commas(alloc, limit) else {
+        return DiskFault::Memory;
+    };
+    match format!(in alloc; "has more than {limit} bytes") {
+        Ok(reason) => refused(alloc, path, reason.as_str()),
+        Err(_) => DiskFault::Memory,
+    }
+}
+
+/// Reads a file of the folder at a path below it, if it is one of a registry with these limits.
 fn read_file(
     rt: &HostRuntime,
+    limits: &Limits,
     folder: &str,
     path: String,
     bytes: u64,
@@ -57,9 +65,9 @@ fn read_file(
         return Ok(());
     }
     let whole = joined(rt, folder, path.as_str())?;
-    let (limit, reason) = limit_of(&role);
-    if bytes > limit {
-        return Err(refused(rt.alloc(), whole.as_str(), reason));
+    let limit = limit_of(&role, limits);
+    if bytes > limit as u64 {
+        return Err(too_long(rt.alloc(), whole.as_str(), limit));
     }
     match fs::read(rt, whole.as_str()) {
         Ok(bytes) => {
@@ -71,7 +79,13 @@ fn read_file(
 }
 
 /// Takes what is at a path below the folder: reads a file, and notes a folder.
-fn take(rt: &HostRuntime, folder: &str, path: String, found: &mut Found) -> Result<(), DiskFault> {
+fn take(
+    rt: &HostRuntime,
+    limits: &Limits,
+    folder: &str,
+    path: String,
+    found: &mut Found,
+) -> Result<(), DiskFault> {
     let whole = joined(rt, folder, path.as_str())?;
     let metadata = match fs::metadata(rt, whole.as_str()) {
         Ok(metadata) => metadata,
@@ -81,11 +95,17 @@ fn take(rt: &HostRuntime, folder: &str, path: String, found: &mut Found) -> Resu
         found.folders.push(path)?;
         return Ok(());
     }
-    read_file(rt, folder, path, metadata.len(), &mut found.files)
+    read_file(rt, limits, folder, path, metadata.len(), &mut found.files)
 }
 
 /// Takes what is in a folder below the folder. Names that begin with a dot are left out.
-fn enter(rt: &HostRuntime, folder: &str, inner: &str, found: &mut Found) -> Result<(), DiskFault> {
+fn enter(
+    rt: &HostRuntime,
+    limits: &Limits,
+    folder: &str,
+    inner: &str,
+    found: &mut Found,
+) -> Result<(), DiskFault> {
     let whole = joined(rt, folder, inner)?;
     let entries = match fs::read_dir(rt, whole.as_str()) {
         Ok(entries) => entries,
@@ -98,14 +118,19 @@ fn enter(rt: &HostRuntime, folder: &str, inner: &str, found: &mut Found) -> Resu
         };
         if !entry.file_name().starts_with('.') {
             let path = joined(rt, inner, entry.file_name())?;
-            take(rt, folder, path, found)?;
+            take(rt, limits, folder, path, found)?;
         }
     }
     Ok(())
 }
 
 /// Takes the data, and the folders of schema and documents, as far as they are there.
-fn begin(rt: &HostRuntime, folder: &str, found: &mut Found) -> Result<(), DiskFault> {
+fn begin(
+    rt: &HostRuntime,
+    limits: &Limits,
+    folder: &str,
+    found: &mut Found,
+) -> Result<(), DiskFault> {
     for side in SIDES {
         let whole = joined(rt, folder, side)?;
         if fs::metadata(rt, whole.as_str()).is_ok() {
@@ -115,7 +140,7 @@ fn begin(rt: &HostRuntime, folder: &str, found: &mut Found) -> Result<(), DiskFa
     let data = String::from_str(rt.alloc(), "data.json")?;
     let whole = joined(rt, folder, "data.json")?;
     if fs::metadata(rt, whole.as_str()).is_ok() {
-        take(rt, folder, data, found)?;
+        take(rt, limits, folder, data, found)?;
     }
     Ok(())
 }
@@ -131,14 +156,18 @@ fn test_folder(rt: &HostRuntime, folder: &str) -> Result<(), DiskFault> {
 
 /// The files of a folder that are those of a registry, by their paths below it, in the order of
 /// these: the files of `schema/` and `documents/`, however deep, and `data.json`. Links are
-/// followed.
-pub fn find_files(rt: &HostRuntime, folder: &str) -> Result<Vec<GivenFile>, DiskFault> {
+/// followed. A file that is over a limit is refused.
+pub fn find_files(
+    rt: &HostRuntime,
+    limits: &Limits,
+    folder: &str,
+) -> Result<Vec<GivenFile>, DiskFault> {
     test_folder(rt, folder)?;
     let mut found = Found {
         files: Vec::new(rt.alloc()),
         folders: Vec::new(rt.alloc()),
     };
-    begin(rt, folder, &mut found)?;
+    begin(rt, limits, folder, &mut found)?;
     for _ in 0..MAX_ENTRIES {
         let Some(inner) = found.folders.pop() else {
             let Found {
@@ -148,7 +177,7 @@ pub fn find_files(rt: &HostRuntime, folder: &str) -> Result<Vec<GivenFile>, Disk
             files.sort_by(|a, b| a.path.as_str().cmp(b.path.as_str()))?;
             return Ok(files);
         };
-        enter(rt, folder, inner.as_str(), &mut found)?;
+        enter(rt, limits, folder, inner.as_str(), &mut found)?;
     }
     let reason = "has too many folders, or a link that leads back to itself";
     Err(refused(rt.alloc(), folder, reason))

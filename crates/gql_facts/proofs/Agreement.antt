@@ -17,9 +17,10 @@ use Rattle.gql_ast.specs.declared.executable.Selection.TheVariants as s
 use Rattle.gql_facts.specs.declared.fact.FragmentFact.{FragmentFact}
 use Rattle.gql_facts.specs.declared.key.Key.{Key}
 use Rattle.gql_facts.specs.declared.key.Key.TheVariants as key
+use Rattle.gql_facts.specs.Floats.{float_read}
 use Rattle.gql_facts.specs.Worlds.{Facts}
 use Rattle.gql_facts.specs.Nodes.{field, inline, nodes, nodes_in, field_node, inline_node, composite, field_type, field_type_in, is_composite_fact, parent_below, parent_within, nodes_field, nodes_spread, nodes_inline}
-use Rattle.gql_facts.specs.OwnReads.{own_reads, tree_reads, operation_reads, fragment_reads, operation_nodes, fragment_nodes, composite_reads, field_reads, condition_reads, directive_reads, variable_reads, set_scan, selection_scan, field_scan, inline_scan, selected_root, selected_by, root_parent}
+use Rattle.gql_facts.specs.OwnReads.{own_reads, executable_reads, tree_reads, operation_reads, fragment_reads, operation_nodes, fragment_nodes, composite_reads, field_reads, condition_reads, directive_reads, variable_reads, set_scan, selection_scan, field_scan, inline_scan, selected_root, selected_by, root_parent}
 use Rattle.gql_facts.specs.Reads.{Reads, own, of_fragment, of_type, Reaches, by_definition, by_fragment, types_in, Agree}
 use Rattle.gql_facts.specs.ListMembers.{Contains-here, Contains-there}
 use Rattle.gql_facts.proofs.Trees.{Each, by_set}
@@ -168,14 +169,17 @@ module _ (v u : Facts) where
       }
 
   -- a definition
+  parts_same : (t : Tree) → AgreeAt v u (executable_reads v t) → executable_reads u t ≡ executable_reads v t
+  parts_same (tree.Operation o) agree = (operation_same o agree).reads
+  parts_same (tree.Fragment f) agree = (fragment_same f agree).reads
+  parts_same (tree.Schema d) agree = refl
+  parts_same (tree.Type d) agree = refl
+  parts_same (tree.Directive d) agree = refl
+  parts_same (tree.SchemaExtension d) agree = refl
+  parts_same (tree.TypeExtension d) agree = refl
+
   pub tree_same : (t : Tree) → AgreeAt v u (tree_reads v t) → tree_reads u t ≡ tree_reads v t
-  tree_same (tree.Operation o) agree = (operation_same o agree).reads
-  tree_same (tree.Fragment f) agree = (fragment_same f agree).reads
-  tree_same (tree.Schema d) agree = refl
-  tree_same (tree.Type d) agree = refl
-  tree_same (tree.Directive d) agree = refl
-  tree_same (tree.SchemaExtension d) agree = refl
-  tree_same (tree.TypeExtension d) agree = refl
+  tree_same t agree = ap (λ l. float_read ∷ l) (parts_same t (second (float_read ∷ []) (executable_reads v t) agree))
 
 -- ---- reach and reads
 

@@ -2,6 +2,7 @@
 use Rattle.std.specs.Prelude.{◌≡◌, ℕ, ◌+◌, ◌<◌, List, [], ◌∷◌, ◌++◌, flat_map, take, length, get_or, Option, Some, refl}
 use Rattle.std.proofs.Common.{ap, sym, ◌∙◌, subst, append-nil}
 use Rattle.std.proofs.lemmas.List.{take_more}
+use Rattle.gql_ast.specs.declared.definition.Definition.{Definition}
 use Rattle.gql_ast.specs.declared.literal.Directive.{Directive}
 use Rattle.gql_ast.specs.declared.executable.Selection.{Selection}
 use Rattle.gql_ast.specs.declared.executable.Field.{Field}
@@ -14,9 +15,10 @@ use Rattle.gql_ast.specs.declared.executable.Selection.TheVariants as s
 use Rattle.gql_facts.specs.declared.fact.Fact.{Fact}
 use Rattle.gql_facts.specs.declared.key.Key.{Key}
 use Rattle.gql_facts.specs.declared.key.Key.TheVariants as key
+use Rattle.gql_facts.specs.Floats.{float_read}
 use Rattle.gql_facts.specs.Worlds.{Facts, Record}
 use Rattle.gql_facts.specs.Nodes.{composite, field_type_in, parent_below, parent_within}
-use Rattle.gql_facts.specs.OwnReads.{composite_reads, field_reads, condition_reads, directive_reads, variable_reads, set_scan, selection_scan, field_scan, inline_scan, spread_scan, operation_reads, fragment_reads, selected_by, root_parent, selected_root}
+use Rattle.gql_facts.specs.OwnReads.{composite_reads, field_reads, condition_reads, directive_reads, variable_reads, set_scan, selection_scan, field_scan, inline_scan, spread_scan, operation_reads, fragment_reads, executable_reads, own_reads, selected_by, root_parent, selected_root}
 use Rattle.gql_facts.specs.Scans.{Scans, add_keys}
 use Rattle.gql_facts.proofs.Parts.{scan_cons, scan_field, scan_inline, scan_spread}
 use Rattle.gql_facts.proofs.Scanning.{kept_scan, scans_then}
@@ -106,6 +108,13 @@ module _ (F : Facts) where
   scanned_fragment f {ds} {xs} {G} {o} {q} {K} {a} {b} {c} {A} {B} {C} is_directives is_set is_condition same is_parent entered' kept below =
       scans_then F (subst (λ w. Scans F (composite_reads w) K A a B) is_condition entered')
       (after_directives f.directives (composite F (Some f.condition.text)) f.selections is_directives is_set same (is_parent ∙ ap (composite F) is_condition) kept below)
+
+  -- a definition
+  pub scanned_definition : (d : Definition) {x : Key} {K a b : List Key} {A B : Record} →
+      x ≡ float_read → a ≡ add_keys K (x ∷ []) → Scans F (executable_reads F d.tree) a A b B → Scans F (own_reads F d) K A b B
+  scanned_definition d {x} {K} {a} {b} {A} {B} is kept parts =
+      let asked : Scans F (float_read ∷ []) K A a A = kept_scan F A (kept ∙ ap (λ k. add_keys K (k ∷ [])) is) in
+      scans_then F {ks = float_read ∷ []} {js = executable_reads F d.tree} asked parts
 
   -- an operation
   pub scanned_operation : (o : Operation) {ds : List Directive} {vs : List VariableDefinition} {xs : List Selection} {G H : Facts} {f : Fact} {r q : Option (List ℕ)} {K a b c d e : List Key} {A B C D : Record} →

@@ -2,6 +2,7 @@
 use Rattle.std.specs.Prelude.{◌≡◌, ℕ, zero, suc, ◌+◌, ◌<◌, List, [], ◌∷◌, ◌++◌, take, length, get_or, slice_get, option_map, Contains, Option, Some, Result, Ok, Err, OnErr, refl}
 use Rattle.std.proofs.Common.{sym, ◌∙◌, subst, inl, inr}
 use Rattle.std.proofs.lemmas.List.Elements.{Contains-append_left, Contains-append_right, Contains-append_cases}
+use Rattle.gql_ast.specs.declared.definition.Definition.{Definition}
 use Rattle.gql_ast.specs.declared.definition.Tree.{Tree}
 use Rattle.gql_ast.specs.declared.definition.Tree.TheVariants as tree
 use Rattle.gql_ast.specs.declared.executable.Selection.{Selection}
@@ -15,12 +16,13 @@ use Rattle.gql_facts.specs.declared.fact.Fact.TheVariants as fact
 use Rattle.gql_facts.specs.declared.fact.FragmentFact.{FragmentFact}
 use Rattle.gql_facts.specs.declared.key.Key.{Key}
 use Rattle.gql_facts.specs.declared.key.Key.TheVariants as key
+use Rattle.gql_facts.specs.Floats.{float_read}
 use Rattle.gql_facts.specs.Worlds.{Facts, Record, noted}
 use Rattle.gql_facts.specs.Nodes.{composite, field_type_in, parent_below, parent_within}
 use Rattle.gql_facts.specs.Walks.{led_to}
-use Rattle.gql_facts.specs.OwnReads.{composite_reads, field_reads, condition_reads, set_scan, selection_scan, field_scan, inline_scan, operation_reads, fragment_reads, tree_reads, selected_by}
+use Rattle.gql_facts.specs.OwnReads.{composite_reads, field_reads, condition_reads, set_scan, selection_scan, field_scan, inline_scan, operation_reads, fragment_reads, executable_reads, own_reads, selected_by}
 use Rattle.gql_facts.specs.Scans.{Records, Scans, add_keys}
-use Rattle.gql_facts.specs.ListMembers.{Contains-nil, some_same}
+use Rattle.gql_facts.specs.ListMembers.{Contains-nil, Contains-there, some_same}
 use Rattle.gql_facts.proofs.Parts.{scan_cons}
 use Rattle.gql_facts.proofs.Scanning.{records_one, records_any, records_then}
 use Rattle.gql_facts.proofs.Entering.{entered, entered_field, scanned_field, scanned_inline, of_field, of_inline, scanned_more, scanned_fragment, scanned_operation}
@@ -168,10 +170,18 @@ module _ (F : Facts) where
 
   -- a definition that is a fragment failed
   pub tree_failed : (t : Tree) (f g : Fragment) {A B : Record} → t ≡ tree.Fragment g → f ≡ g
-      → Records F (fragment_reads F f) A B → Records F (tree_reads F t) A B
+      → Records F (fragment_reads F f) A B → Records F (executable_reads F t) A B
   tree_failed t f g {A} {B} is_tree is_fragment r =
-      subst (λ z. Records F (tree_reads F z) A B) (sym is_tree)
+      subst (λ z. Records F (executable_reads F z) A B) (sym is_tree)
       (subst (λ z. Records F (fragment_reads F z) A B) is_fragment r)
+
+  -- the parts of a definition failed
+  pub definition_failed : (d : Definition) {G : Facts} {A B : Record} → G ≡ F
+      → Records G (executable_reads G d.tree) A B → Records F (own_reads F d) A B
+  definition_failed d {G} {A} {B} same r =
+      records_more (executable_reads F d.tree) (own_reads F d)
+      (λ k h. Contains-there k float_read (executable_reads F d.tree) h)
+      (subst (λ H. Records H (executable_reads H d.tree) A B) same r)
 
   -- a fragment that an answer is failed
   pub followed_failed : (k : Fact) (f : Fragment) (g : FragmentFact) {A B : Record}

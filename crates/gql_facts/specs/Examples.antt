@@ -91,10 +91,11 @@ query p = record {
   });
 }
 
--- it reads the root, each field with the type of what it selects, the condition, and the fragment;
+-- it reads whether `Float` is a type, the root, each field with the type of what it selects, the condition, and the fragment;
 -- a key may be read more than once
 query_reads : (p : Place) → own_reads answers (query p) ≡
-    key.RootOf operation.Query ∷ key.KindOf (codes "Query") ∷ key.PossibleOf (codes "Query")
+    key.KindOf (codes "Float")
+    ∷ key.RootOf operation.Query ∷ key.KindOf (codes "Query") ∷ key.PossibleOf (codes "Query")
     ∷ key.FieldOf (codes "Query") (codes "me")
     ∷ key.KindOf (codes "User") ∷ key.PossibleOf (codes "User")
     ∷ key.KindOf (codes "User") ∷ key.PossibleOf (codes "User")

@@ -3,6 +3,7 @@ pub mod Singles
 pub mod ListMembers
 pub mod Keys
 pub mod Worlds
+pub mod Floats
 pub mod Nodes
 pub mod OwnReads
 pub mod Reads

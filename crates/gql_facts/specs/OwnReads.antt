@@ -8,7 +8,6 @@ use Rattle.gql_ast.specs.declared.literal.Directive.{Directive}
 use Rattle.gql_ast.specs.declared.executable.Fragment.{Fragment}
 use Rattle.gql_ast.specs.declared.executable.Operation.{Operation}
 use Rattle.gql_ast.specs.declared.executable.OperationKind.{OperationKind}
-use Rattle.gql_ast.specs.declared.executable.OperationKind.TheVariants as operation
 use Rattle.gql_ast.specs.declared.executable.VariableDefinition.{VariableDefinition}
 use Rattle.gql_ast.specs.declared.executable.Selection.{Selection}
 use Rattle.gql_ast.specs.declared.executable.Field.{Field}
@@ -18,6 +17,7 @@ use Rattle.gql_types.specs.Written.{written}
 use Rattle.gql_facts.specs.declared.fact.Fact.{Fact}
 use Rattle.gql_facts.specs.declared.key.Key.{Key}
 use Rattle.gql_facts.specs.declared.key.Key.TheVariants as key
+use Rattle.gql_facts.specs.Floats.{float_read}
 use Rattle.gql_facts.specs.Worlds.{Facts}
 use Rattle.gql_types.specs.WrittenTypes.{named_type}
 use Rattle.gql_facts.specs.Nodes.{Node, field, spread, inline, nodes, nodes_in, composite, root_in, field_type, parent_below, parent_within}
@@ -59,12 +59,10 @@ variable_reads v = key.KindOf (named_type (written v.of_type))
     ∷ key.EnumOf (named_type (written v.of_type))
     ∷ directive_reads v.directives
 
--- the type that an operation of this kind selects from, by the answer for the root; a subscription
--- has none
+-- the type that an operation of this kind selects from, by the answer for the root: the root operation
+-- type, of a subscription as of a query and a mutation
 abbrev pub selected_by : OperationKind → Fact → Option (List ℕ)
-selected_by operation.Query f = root_in f
-selected_by operation.Mutation f = root_in f
-selected_by operation.Subscription f = None
+selected_by k f = root_in f
 
 -- the type that an operation of this kind selects from
 abbrev pub selected_root : Facts → OperationKind → Option (List ℕ)
@@ -94,11 +92,15 @@ abbrev pub fragment_reads : Facts → Fragment → List Key
 fragment_reads facts f = composite_reads (Some f.condition.text)
     ++ (directive_reads f.directives ++ set_reads facts (fragment_nodes facts f))
 
--- the keys that a tree reads by itself; one of the type system reads none
+-- the keys that the parts of a tree read; one of the type system has none
+abbrev pub executable_reads : Facts → Tree → List Key
+executable_reads facts (tree.Operation o) = operation_reads facts o
+executable_reads facts (tree.Fragment f) = fragment_reads facts f
+executable_reads facts _ = []
+
+-- the keys that a tree reads by itself: whether `Float` is a type, and what its parts read
 abbrev pub tree_reads : Facts → Tree → List Key
-tree_reads facts (tree.Operation o) = operation_reads facts o
-tree_reads facts (tree.Fragment f) = fragment_reads facts f
-tree_reads facts _ = []
+tree_reads facts t = float_read ∷ executable_reads facts t
 
 -- the keys that a definition reads by itself
 abbrev pub own_reads : Facts → Definition → List Key

@@ -4,6 +4,7 @@
 
 mod edited_facts;
 mod fact;
+mod float;
 mod fragments;
 mod key;
 pub mod laws;
@@ -16,6 +17,7 @@ mod walk;
 mod world;
 
 pub use fact::{DirectiveFact, Fact, FieldFact, FragmentFact, InputFact};
+pub use float::{float_read, is_open};
 pub use fragments::{Fragments, have_same_fragments};
 pub use key::Key;
 pub use possible_names::PossibleNames;

@@ -1,4 +1,4 @@
-//! The keys that a definition reads by itself. If a fact decides a parent type, the world is asked
+//! The keys that the parts of a definition read. If a fact decides a parent type, the world is asked
 //! for it at once.
 ghost use Rattle.std.specs.Prelude.{◌≡◌, [], ◌∷◌, IfOk, OnOk, OnErr, flat_map, option_map};
 ghost use Rattle.gql_types.specs.Written.{written};
@@ -11,8 +11,8 @@ use crate::fact::Fact;
 use crate::key::Key;
 use crate::world::World;
 use gql_ast::{
-    Directive, Field, Fragment, InlineFragment, Name, Operation, OperationKind, Selection, Spread,
-    Text, Tree, TypeRef, VariableDefinition,
+    Directive, Field, Fragment, InlineFragment, Name, Operation, Selection, Spread, Text, Tree,
+    TypeRef, VariableDefinition,
 };
 use gql_types::WrittenType;
 use indexmap::IndexSet;
@@ -315,16 +315,6 @@ fn scan_set<W: World>(
     Ok(())
 }
 
-/// The name of the type that an operation selects from, by the answer for its kind.
-fn selected_root(kind: OperationKind, fact: &Fact) -> Result<Option<Text>, AllocError>
-    ensures { IfOk result (λ t. t ≡ spec.selected_by kind fact.now) }
-{
-    match kind {
-        OperationKind::Subscription => Ok(None),
-        _ => root_type(fact),
-    }
-}
-
 fn scan_operation<W: World>(
     alloc: Global,
     world: &mut W,
@@ -342,7 +332,7 @@ fn scan_operation<W: World>(
         (W.asked world.old) (W.asked world.new)) }
 {
     let fact = ask(alloc, world, Key::RootOf(operation.kind), keys)?;
-    let root = selected_root(operation.kind, &fact)?;
+    let root = root_type(&fact)?;
     let parent = enter(alloc, world, root, keys)?;
     keep_directives(operation.directives.as_slice(), keys)?;
     keep_variables(alloc, operation.variables.as_slice(), keys)?;
@@ -374,7 +364,7 @@ pub fn scan_fragment<W: World>(
     Ok(())
 }
 
-/// Adds the keys that a definition reads by itself.
+/// Adds the keys that the parts of a definition read.
 pub fn scan_tree<W: World>(
     alloc: Global,
     world: &mut W,
@@ -385,10 +375,10 @@ pub fn scan_tree<W: World>(
     ensures names { W.names world.new ≡ W.names world.old }
     ensures lent { W.lent world.new ≡ W.lent world.old }
     ensures scanned { OnOk result (Scans (W.facts world.old)
-        (spec.tree_reads (W.facts world.old) tree.now)
+        (spec.executable_reads (W.facts world.old) tree.now)
         keys.old.keys (W.asked world.old) keys.new.keys (W.asked world.new)) }
     ensures failed { OnErr result (Records (W.facts world.old)
-        (spec.tree_reads (W.facts world.old) tree.now)
+        (spec.executable_reads (W.facts world.old) tree.now)
         (W.asked world.old) (W.asked world.new)) }
 {
     match tree {

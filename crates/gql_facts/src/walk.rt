@@ -1,12 +1,14 @@
 //! What a definition reads and reaches, by a walk that asks a world.
 ghost use Rattle.std.specs.Prelude.{◌≡◌, ◌∷◌, ◌++◌, List, IfOk, OnOk, OnErr, Some, flat_map, map, slice_get};
 ghost use Rattle.gql_facts.specs.Members.{Lists};
+ghost use Rattle.gql_facts.specs.OwnReads.{own_reads};
 ghost use Rattle.gql_facts.specs.Reads.{Reads, Reaches, Asked, AskedAmong, type_reads, input_types};
 ghost use Rattle.gql_facts.specs.Scans.{Records, Scans, add_keys};
 ghost use Rattle.gql_facts.specs.Walks as spec;
 ghost use Rattle.gql_facts.specs.declared.key.Key.{Key};
 
 use crate::fact::{Fact, FragmentFact, InputFact};
+use crate::float::float_read;
 use crate::key::Key;
 use crate::scan::{keep, scan_fragment, scan_tree};
 use crate::world::World;
@@ -27,6 +29,28 @@ impl Drop for Walk {
             members: _,
         } = self;
     }
+}
+
+/// Adds the keys that a definition reads by itself: whether `Float` is a type, and what its parts read.
+fn scan_definition<W: World>(
+    alloc: Global,
+    world: &mut W,
+    definition: &Definition,
+    keys: &mut IndexSet<Key>,
+) -> Result<(), AllocError>
+    ensures facts { W.facts world.new ≡ W.facts world.old }
+    ensures names { W.names world.new ≡ W.names world.old }
+    ensures lent { W.lent world.new ≡ W.lent world.old }
+    ensures scanned { OnOk result (Scans (W.facts world.old)
+        (own_reads (W.facts world.old) definition.now)
+        keys.old.keys (W.asked world.old) keys.new.keys (W.asked world.new)) }
+    ensures failed { OnErr result (Records (W.facts world.old)
+        (own_reads (W.facts world.old) definition.now)
+        (W.asked world.old) (W.asked world.new)) }
+{
+    keep(float_read(alloc)?, keys)?;
+    scan_tree(alloc, world, &definition.tree, keys)?;
+    Ok(())
 }
 
 fn keep_type(name: &Text, keys: &mut IndexSet<Key>) -> Result<(), AllocError>
@@ -144,7 +168,7 @@ pub fn walk_reads<W: World>(
 {
     let mut keys = IndexSet::new(alloc);
     let mut members = Vec::new(alloc);
-    scan_tree(alloc, world, &definition.tree, &mut keys)?;
+    scan_definition(alloc, world, definition, &mut keys)?;
     let mut at = 0;
     'walk: while at < keys.len() {
         visit(alloc, world, at, &mut keys, &mut members)?;

@@ -75,13 +75,18 @@ title_of rule.V26 = codes "Variables Are Input Types"
 title_of rule.V27 = codes "All Variable Uses Defined"
 title_of rule.V28 = codes "All Variables Used"
 title_of rule.V29 = codes "All Variable Usages Are Allowed"
+title_of rule.V30 = codes "Single Root Field"
 
 -- what is at fault by a rule
 abbrev pub sentence_of : Rule → List ℕ
-sentence_of rule.P01 = codes "a schema file refers to Float, which this registry does not serve."
-sentence_of rule.P02 = codes "the schema has a subscription root, and this registry serves none."
-sentence_of rule.P03 = codes "an operation is a subscription, which this registry does not serve."
-sentence_of rule.P04 = codes "a variable is of type Float, which this registry does not serve."
+sentence_of rule.P01 =
+    codes "a schema file refers to Float, which only --profile october-2021 serves."
+sentence_of rule.P02 =
+    codes "the schema has a subscription root, which only --profile october-2021 serves."
+sentence_of rule.P03 =
+    codes "an operation is a subscription, and the schema has no subscription root."
+sentence_of rule.P04 =
+    codes "a variable is of type Float, which only --profile october-2021 serves."
 sentence_of rule.P05 = codes "an operation is a mutation, and the schema has no mutation root."
 sentence_of rule.S01 = codes "two type definitions have the same name."
 sentence_of rule.S02 = codes "two directive definitions have the same name."
@@ -150,3 +155,4 @@ sentence_of rule.V26 = codes "the type of a variable is unknown, or not an input
 sentence_of rule.V27 = codes "an operation does not define a variable that it uses."
 sentence_of rule.V28 = codes "neither the operation nor its fragments use a variable."
 sentence_of rule.V29 = codes "a variable is used where its type does not fit."
+sentence_of rule.V30 = codes "a subscription has no root field, several, or one of introspection."

@@ -7,7 +7,7 @@ ghost use Rattle.gql_findings.specs.Words.{title_of, sentence_of};
 use gql_ast::Rule;
 
 /// The names of the rules, each in the place of its variant in `Rule`.
-static TITLES: [&str; 70] = [
+static TITLES: [&str; 71] = [
     "Float References", // P01
     "Subscription Roots", // P02
     "Subscriptions", // P03
@@ -78,14 +78,15 @@ static TITLES: [&str; 70] = [
     "All Variable Uses Defined", // V27
     "All Variables Used", // V28
     "All Variable Usages Are Allowed", // V29
+    "Single Root Field", // V30
 ];
 
 /// The sentences of the rules, each in the place of its variant in `Rule`.
-static SENTENCES: [&str; 70] = [
-    "a schema file refers to Float, which this registry does not serve.", // P01
-    "the schema has a subscription root, and this registry serves none.", // P02
-    "an operation is a subscription, which this registry does not serve.", // P03
-    "a variable is of type Float, which this registry does not serve.", // P04
+static SENTENCES: [&str; 71] = [
+    "a schema file refers to Float, which only --profile october-2021 serves.", // P01
+    "the schema has a subscription root, which only --profile october-2021 serves.", // P02
+    "an operation is a subscription, and the schema has no subscription root.", // P03
+    "a variable is of type Float, which only --profile october-2021 serves.", // P04
     "an operation is a mutation, and the schema has no mutation root.", // P05
     "two type definitions have the same name.", // S01
     "two directive definitions have the same name.", // S02
@@ -152,6 +153,7 @@ static SENTENCES: [&str; 70] = [
     "an operation does not define a variable that it uses.", // V27
     "neither the operation nor its fragments use a variable.", // V28
     "a variable is used where its type does not fit.", // V29
+    "a subscription has no root field, several, or one of introspection.", // V30
 ];
 
 /// The name of a rule, as in "Field Selections".

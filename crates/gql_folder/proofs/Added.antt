@@ -118,8 +118,8 @@ pub if_err : {T E : Type 0} {P Q : E → Type 0} (r : Result T E) → IfErr r P 
 if_err (Ok v) p f = tt
 if_err (Err e) p f = f e p
 
-longer : (named : List NamedFile) (f : NamedFile) → length named < 256 → length (named ++ f ∷ []) ≤ 256
-longer named f short = let e = length-append named (f ∷ []) in omega arith
+longer : (most : ℕ) (named : List NamedFile) (f : NamedFile) → length named < most → length (named ++ f ∷ []) ≤ most
+longer most named f short = let e = length-append named (f ∷ []) in omega arith
 
 schema_not_documents : (m n : List ℕ) → role.File Schema m ≡ role.File Documents n → ⊥
 schema_not_documents m n is = cc is
@@ -128,30 +128,30 @@ pub not_misnamed : (side : FileSide) (n : List ℕ) → role.File side n ≡ rol
 not_misnamed side n is = cc is
 
 -- a folder with one more schema file
-pub with_schema : (paths : List (List ℕ)) (at : ℕ) (path name : List ℕ) (f g : Folder) → slice_get paths at ≡ Some path → role_at path ≡ role.File Schema name → IsFolder paths at f
-    → g.documents ≡ f.documents → g.«data» ≡ f.«data» → g.schema.items ≡ f.schema.items ++ (record { name = name; at = at }) ∷ [] → IsFresh name f.schema.items → length f.schema.items < 256 → IsFolder paths (at + 1) g
-with_schema paths at path name f g is role_is old documents the_data schema fresh few =
+pub with_schema : (most : ℕ) (paths : List (List ℕ)) (at : ℕ) (path name : List ℕ) (f g : Folder) → slice_get paths at ≡ Some path → role_at path ≡ role.File Schema name → IsFolder most paths at f
+    → g.documents ≡ f.documents → g.«data» ≡ f.«data» → g.schema.items ≡ f.schema.items ++ (record { name = name; at = at }) ∷ [] → IsFresh name f.schema.items → length f.schema.items < most → IsFolder most paths (at + 1) g
+with_schema most paths at path name f g is role_is old documents the_data schema fresh few =
     let here : HasRole paths at (role.File Schema name) = (path, is, role_is) in
     record {
       schema = subst (AreNamed Schema paths (at + 1)) (sym schema) (named_more Schema paths at name f.schema.items old.schema here fresh);
       documents = subst (λ (d : Vec NamedFile Global). AreNamed Documents paths (at + 1) d.items) (sym documents) (named_same Documents paths at f.documents.items _ old.documents here (λ n. schema_not_documents name n));
-      few_schema = subst (λ ns. length ns ≤ 256) (sym schema) (longer f.schema.items _ few);
-      few_documents = subst (λ (d : Vec NamedFile Global). length d.items ≤ 256) (sym documents) old.few_documents;
+      few_schema = subst (λ ns. length ns ≤ most) (sym schema) (longer most f.schema.items _ few);
+      few_documents = subst (λ (d : Vec NamedFile Global). length d.items ≤ most) (sym documents) old.few_documents;
       data_at = subst (IsDataAt paths (at + 1)) (sym the_data) (data_same paths at f.«data» _ old.data_at here (file_not_data Schema name));
       named = all_same paths at _ old.named here (not_misnamed Schema name);
     }
 
 -- a folder with one more document file
-pub with_document : (paths : List (List ℕ)) (at : ℕ) (path name : List ℕ) (f g : Folder) → slice_get paths at ≡ Some path → role_at path ≡ role.File Documents name → IsFolder paths at f
-    → g.schema ≡ f.schema → g.«data» ≡ f.«data» → g.documents.items ≡ f.documents.items ++ (record { name = name; at = at }) ∷ [] → IsFresh name f.documents.items → length f.documents.items < 256
-    → IsFolder paths (at + 1) g
-with_document paths at path name f g is role_is old schema the_data documents fresh few =
+pub with_document : (most : ℕ) (paths : List (List ℕ)) (at : ℕ) (path name : List ℕ) (f g : Folder) → slice_get paths at ≡ Some path → role_at path ≡ role.File Documents name → IsFolder most paths at f
+    → g.schema ≡ f.schema → g.«data» ≡ f.«data» → g.documents.items ≡ f.documents.items ++ (record { name = name; at = at }) ∷ [] → IsFresh name f.documents.items → length f.documents.items < most
+    → IsFolder most paths (at + 1) g
+with_document most paths at path name f g is role_is old schema the_data documents fresh few =
     let here : HasRole paths at (role.File Documents name) = (path, is, role_is) in
     record {
       documents = subst (AreNamed Documents paths (at + 1)) (sym documents) (named_more Documents paths at name f.documents.items old.documents here fresh);
       schema = subst (λ (d : Vec NamedFile Global). AreNamed Schema paths (at + 1) d.items) (sym schema) (named_same Schema paths at f.schema.items _ old.schema here (λ n e. schema_not_documents n name (sym e)));
-      few_documents = subst (λ ns. length ns ≤ 256) (sym documents) (longer f.documents.items _ few);
-      few_schema = subst (λ (d : Vec NamedFile Global). length d.items ≤ 256) (sym schema) old.few_schema;
+      few_documents = subst (λ ns. length ns ≤ most) (sym documents) (longer most f.documents.items _ few);
+      few_schema = subst (λ (d : Vec NamedFile Global). length d.items ≤ most) (sym schema) old.few_schema;
       data_at = subst (IsDataAt paths (at + 1)) (sym the_data) (data_same paths at f.«data» _ old.data_at here (file_not_data Documents name));
       named = all_same paths at _ old.named here (not_misnamed Documents name);
     }
@@ -163,15 +163,15 @@ data_not_misnamed : role.Data ≡ role.Misnamed → ⊥
 data_not_misnamed is = cc is
 
 -- a folder with data at the next path
-pub with_data : (paths : List (List ℕ)) (at : ℕ) (path : List ℕ) (f g : Folder) → slice_get paths at ≡ Some path → role_at path ≡ role.Data → IsFolder paths at f → g.schema ≡ f.schema
-    → g.documents ≡ f.documents → g.«data» ≡ Some at → IsFolder paths (at + 1) g
-with_data paths at path f g is role_is old schema documents the_data =
+pub with_data : (most : ℕ) (paths : List (List ℕ)) (at : ℕ) (path : List ℕ) (f g : Folder) → slice_get paths at ≡ Some path → role_at path ≡ role.Data → IsFolder most paths at f → g.schema ≡ f.schema
+    → g.documents ≡ f.documents → g.«data» ≡ Some at → IsFolder most paths (at + 1) g
+with_data most paths at path f g is role_is old schema documents the_data =
     let here : HasRole paths at role.Data = (path, is, role_is) in
     record {
       schema = subst (λ (d : Vec NamedFile Global). AreNamed Schema paths (at + 1) d.items) (sym schema) (named_same Schema paths at f.schema.items _ old.schema here (data_not_file Schema));
       documents = subst (λ (d : Vec NamedFile Global). AreNamed Documents paths (at + 1) d.items) (sym documents) (named_same Documents paths at f.documents.items _ old.documents here (data_not_file Documents));
-      few_schema = subst (λ (d : Vec NamedFile Global). length d.items ≤ 256) (sym schema) old.few_schema;
-      few_documents = subst (λ (d : Vec NamedFile Global). length d.items ≤ 256) (sym documents) old.few_documents;
+      few_schema = subst (λ (d : Vec NamedFile Global). length d.items ≤ most) (sym schema) old.few_schema;
+      few_documents = subst (λ (d : Vec NamedFile Global). length d.items ≤ most) (sym documents) old.few_documents;
       data_at = subst (IsDataAt paths (at + 1)) (sym the_data) (omega arith, here);
       named = all_same paths at _ old.named here data_not_misnamed;
     }
@@ -186,8 +186,8 @@ other_not_misnamed : role.Other ≡ role.Misnamed → ⊥
 other_not_misnamed is = cc is
 
 -- a folder where the next path is no file of it
-pub with_other : (paths : List (List ℕ)) (at : ℕ) (path : List ℕ) (f : Folder) → slice_get paths at ≡ Some path → role_at path ≡ role.Other → IsFolder paths at f → IsFolder paths (at + 1) f
-with_other paths at path f is role_is old =
+pub with_other : (most : ℕ) (paths : List (List ℕ)) (at : ℕ) (path : List ℕ) (f : Folder) → slice_get paths at ≡ Some path → role_at path ≡ role.Other → IsFolder most paths at f → IsFolder most paths (at + 1) f
+with_other most paths at path f is role_is old =
     let here : HasRole paths at role.Other = (path, is, role_is) in
     record {
       schema = named_same Schema paths at f.schema.items _ old.schema here (other_not_file Schema);
@@ -199,27 +199,27 @@ with_other paths at path f is role_is old =
     }
 
 -- the fault of a file that is not added
-pub add_fault : (side : FileSide) (paths : List (List ℕ)) (at : ℕ) (name : List ℕ) (named : List NamedFile) → AreNamed side paths at named → HasRole paths at (role.File side name)
-    → (fault : FolderFault) → IsAddFault side name at named fault → IsFolderFault paths fault
-add_fault side paths at name named old here (fault.Misnamed other) is = absurd is
-add_fault side paths at name named old here (fault.Twice first other) is =
+pub add_fault : (most : ℕ) (side : FileSide) (paths : List (List ℕ)) (at : ℕ) (name : List ℕ) (named : List NamedFile) → AreNamed side paths at named → HasRole paths at (role.File side name)
+    → (fault : FolderFault) → IsAddFault most side name at named fault → IsFolderFault most paths fault
+add_fault most side paths at name named old here (fault.Misnamed other) is = absurd is
+add_fault most side paths at name named old here (fault.Twice first other) is =
     let e : (is.1.at < at) × HasRole paths is.1.at (role.File side is.1.name) = old.each is.1 is.2.0 in
     let below : first < other = subst (λ i. i < other) is.3 (subst (λ j. is.1.at < j) (sym is.0) e.0) in
     (below, side, name, subst (λ i. HasRole paths i (role.File side name)) is.3 (subst (λ n. HasRole paths is.1.at (role.File side n)) is.2.1 e.1), subst (λ j. HasRole paths j (role.File side name)) (sym is.0) here)
-add_fault side paths at name named old here (fault.TooMany other) is =
-    subst (λ s. IsFolderFault paths (fault.TooMany s)) (sym is.0) (named, at, old, at, omega arith, is.1, name, here)
-add_fault side paths at name named old here fault.Memory is = tt
+add_fault most side paths at name named old here (fault.TooMany other) is =
+    subst (λ s. IsFolderFault most paths (fault.TooMany s)) (sym is.0) (named, at, old, at, omega arith, is.1, name, here)
+add_fault most side paths at name named old here fault.Memory is = tt
 
 not_below_zero : {A : Type 0} (i : ℕ) → i < 0 → A
 not_below_zero i h = absurd (omega arith)
 
 -- no path, and no file
-pub nothing : (paths : List (List ℕ)) (f : Folder) → f.schema.items ≡ [] → f.documents.items ≡ [] → f.«data» ≡ None → IsFolder paths 0 f
-nothing paths f schema documents the_data = record {
+pub nothing : (most : ℕ) (paths : List (List ℕ)) (f : Folder) → f.schema.items ≡ [] → f.documents.items ≡ [] → f.«data» ≡ None → IsFolder most paths 0 f
+nothing most paths f schema documents the_data = record {
   schema = subst (AreNamed Schema paths 0) (sym schema) (empty Schema);
   documents = subst (AreNamed Documents paths 0) (sym documents) (empty Documents);
-  few_schema = subst (λ ns. length ns ≤ 256) (sym schema) (omega arith);
-  few_documents = subst (λ ns. length ns ≤ 256) (sym documents) (omega arith);
+  few_schema = subst (λ ns. length ns ≤ most) (sym schema) (omega arith);
+  few_documents = subst (λ ns. length ns ≤ most) (sym documents) (omega arith);
   data_at = subst (IsDataAt paths 0) (sym the_data) (λ i low has. not_below_zero i low);
   named = λ i low has. not_below_zero i low;
 }

@@ -13,10 +13,10 @@ IsFresh name named = (f : NamedFile) → Contains named f → f.name ≡ name �
 abbrev pub IsFound : List ℕ → List NamedFile → NamedFile → Type 0
 IsFound name named f = Contains named f × (f.name ≡ name)
 
--- why a file of this name is not added to these
-abbrev pub IsAddFault : FileSide → List ℕ → ℕ → List NamedFile → FolderFault → Type 0
-IsAddFault side name at named (Misnamed other) = ⊥
-IsAddFault side name at named (Twice first other) =
+-- why a file of this name is not added to these, where there may be so many
+abbrev pub IsAddFault : ℕ → FileSide → List ℕ → ℕ → List NamedFile → FolderFault → Type 0
+IsAddFault most side name at named (Misnamed other) = ⊥
+IsAddFault most side name at named (Twice first other) =
     (other ≡ at) × (f : NamedFile) × IsFound name named f × (f.at ≡ first)
-IsAddFault side name at named (TooMany other) = (other ≡ side) × (256 ≤ length named)
-IsAddFault side name at named Memory = Unit {0}
+IsAddFault most side name at named (TooMany other) = (other ≡ side) × (most ≤ length named)
+IsAddFault most side name at named Memory = Unit {0}

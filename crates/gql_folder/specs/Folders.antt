@@ -41,12 +41,12 @@ IsDataAt paths count (Some at) = (at < count) × HasRole paths at role.Data
 abbrev pub AreAllNamed : List (List ℕ) → ℕ → Type 0
 AreAllNamed paths count = (at : ℕ) → at < count → HasRole paths at role.Misnamed → ⊥
 
--- the files of a registry at the first `count` of these paths
-pub record IsFolder (paths : List (List ℕ)) (count : ℕ) (f : Folder) : Type 0 where
+-- the files of a registry at the first `count` of these paths, at most so many of a side
+pub record IsFolder (most : ℕ) (paths : List (List ℕ)) (count : ℕ) (f : Folder) : Type 0 where
   pub schema : AreNamed Schema paths count f.schema.items
   pub documents : AreNamed Documents paths count f.documents.items
-  pub few_schema : length f.schema.items ≤ 256
-  pub few_documents : length f.documents.items ≤ 256
+  pub few_schema : length f.schema.items ≤ most
+  pub few_documents : length f.documents.items ≤ most
   pub data_at : IsDataAt paths count f.«data»
   pub named : AreAllNamed paths count
 
@@ -55,12 +55,12 @@ abbrev pub IsTwice : List (List ℕ) → ℕ → ℕ → Type 0
 IsTwice paths first at = (first < at) × (side : FileSide) × (name : List ℕ)
     × HasRole paths first (role.File side name) × HasRole paths at (role.File side name)
 
--- why these paths are refused
-abbrev pub IsFolderFault : List (List ℕ) → FolderFault → Type 0
-IsFolderFault paths (Misnamed at) = HasRole paths at role.Misnamed
-IsFolderFault paths (Twice first at) = IsTwice paths first at
-IsFolderFault paths (TooMany side) =
+-- why these paths are refused, where there may be so many files of a side
+abbrev pub IsFolderFault : ℕ → List (List ℕ) → FolderFault → Type 0
+IsFolderFault most paths (Misnamed at) = HasRole paths at role.Misnamed
+IsFolderFault most paths (Twice first at) = IsTwice paths first at
+IsFolderFault most paths (TooMany side) =
     (named : List NamedFile) × (count : ℕ) × AreNamed side paths count named
-    × (at : ℕ) × (count ≤ at) × (256 ≤ length named) × (name : List ℕ)
+    × (at : ℕ) × (count ≤ at) × (most ≤ length named) × (name : List ℕ)
     × HasRole paths at (role.File side name)
-IsFolderFault paths Memory = Unit {0}
+IsFolderFault most paths Memory = Unit {0}

@@ -8,9 +8,6 @@ use gql_ast::{FileName, FileSide};
 use std::alloc::{AllocError, AllocFailed, Global};
 use thiserror::Error;
 
-/// How many files of a kind a folder may have.
-pub const MAX_FILES: usize = 256;
-
 /// A file that is given: its path below the folder, with `/` between its parts, and its bytes.
 #[derive(Drop)]
 pub struct GivenFile {
@@ -43,7 +40,7 @@ pub enum FolderFault {
     /// The paths of the files at these two indices give one name.
     #[error("two files have one name")]
     Twice { first: usize, at: usize },
-    /// There are more than 256 files of this side.
+    /// There are more files of this side than there may be.
     #[error("too many files")]
     TooMany { side: FileSide },
     /// An allocation failed.
@@ -81,8 +78,9 @@ fn find_named<'n>(named: &'n [NamedFile], name: &FileName) -> Option<&'n NamedFi
     named.iter().find(|file| file.name == *name)
 }
 
-/// Adds a file of a side, unless there is one of that name, or there are too many.
+/// Adds a file of a side, unless there is one of that name, or there are as many as there may be.
 fn add_named(
+    most: usize,
     named: &mut Vec<NamedFile>,
     side: FileSide,
     name: FileName,
@@ -91,8 +89,8 @@ fn add_named(
     ensures added { OnOk result (named.new.items
         ≡ named.old.items ++ (record { name = name; at = at }) ∷ []) }
     ensures fresh { OnOk result (IsFresh name named.old.items) }
-    ensures few { OnOk result (length named.old.items < 256) }
-    ensures err { IfErr result (IsAddFault side name at named.old.items) }
+    ensures few { OnOk result (length named.old.items < most) }
+    ensures err { IfErr result (IsAddFault most side name at named.old.items) }
 {
     if let Some(first) = find_named(named.as_slice(), &name) {
         return Err(FolderFault::Twice {
@@ -100,7 +98,7 @@ fn add_named(
             at,
         });
     }
-    if named.len() >= MAX_FILES {
+    if named.len() >= most {
         return Err(FolderFault::TooMany { side });
     }
     named.push(NamedFile { name, at })?;
@@ -108,19 +106,19 @@ fn add_named(
 }
 
 impl Folder {
-    /// Adds the file at a path.
-    fn add(&mut self, path: &str, at: usize) -> Result<(), FolderFault>
+    /// Adds the file at a path, where there may be so many of a side.
+    fn add(&mut self, most: usize, path: &str, at: usize) -> Result<(), FolderFault>
         ensures ok { (paths : List (List ℕ)) → slice_get paths at ≡ Some path.now
-            → IsFolder paths at self.old → OnOk result (IsFolder paths (at + 1) self.new) }
+            → IsFolder most paths at self.old → OnOk result (IsFolder most paths (at + 1) self.new) }
         ensures err { (paths : List (List ℕ)) → slice_get paths at ≡ Some path.now
-            → IsFolder paths at self.old → IfErr result (IsFolderFault paths) }
+            → IsFolder most paths at self.old → IfErr result (IsFolderFault most paths) }
     {
         match role_of(path) {
             Role::File(FileSide::Schema, name) => {
-                add_named(&mut self.schema, FileSide::Schema, name, at)
+                add_named(most, &mut self.schema, FileSide::Schema, name, at)
             }
             Role::File(FileSide::Documents, name) => {
-                add_named(&mut self.documents, FileSide::Documents, name, at)
+                add_named(most, &mut self.documents, FileSide::Documents, name, at)
             }
             Role::Data => {
                 self.data = Some(at);
@@ -132,10 +130,11 @@ impl Folder {
     }
 }
 
-/// The files of a folder by their names, or why they are not the files of a registry.
-pub fn read_folder(alloc: Global, files: &[GivenFile]) -> Result<Folder, FolderFault>
-    ensures folder { IfOk result (IsFolder (paths_of files.now) (length files.now)) }
-    ensures err { IfErr result (IsFolderFault (paths_of files.now)) }
+/// The files of a folder by their names, or why they are not the files of a registry that takes so
+/// many of a side.
+pub fn read_folder(alloc: Global, files: &[GivenFile], most: usize) -> Result<Folder, FolderFault>
+    ensures folder { IfOk result (IsFolder most (paths_of files.now) (length files.now)) }
+    ensures err { IfErr result (IsFolderFault most (paths_of files.now)) }
 {
     let mut folder = Folder {
         schema: Vec::new(alloc),
@@ -143,7 +142,7 @@ pub fn read_folder(alloc: Global, files: &[GivenFile]) -> Result<Folder, FolderF
         data: None,
     };
     for (at, file) in files.iter().enumerate() {
-        folder.add(file.path.as_str(), at)?;
+        folder.add(most, file.path.as_str(), at)?;
     }
     Ok(folder)
 }

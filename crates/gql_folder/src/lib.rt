@@ -2,7 +2,9 @@
 #![tactic(auto)]
 
 mod folder;
+mod number;
 mod role;
 
-pub use folder::{Folder, FolderFault, GivenFile, MAX_FILES, NamedFile, read_folder};
+pub use folder::{Folder, FolderFault, GivenFile, NamedFile, read_folder};
+pub use number::with_commas;
 pub use role::{Role, role_of};

@@ -1,6 +1,7 @@
 //! `gqlreg check`: what a check of a folder finds, written in a format.
 
 use crate::status::{Checked, check_status};
+use gql_ast::Profile;
 use gql_check::{CheckFault, check_files, refusal_annotation, refusal_text};
 use gql_findings::{Findings, compare};
 use gql_folder::GivenFile;
@@ -15,10 +16,12 @@ use std::{env, fs};
 /// What a check of the folder finds. Says what manifests are made into, if there are some.
 fn findings_now(rt: &HostRuntime, options: &CheckOptions) -> Result<Findings, Failure> {
     let folder = options.folder.as_str();
-    let given = given_files(rt, folder, options.manifests.as_slice())?;
+    let limits = &options.profile.limits;
+    let given = given_files(rt, limits, folder, options.manifests.as_slice())?;
     tell_made(rt, &given);
     tell_long_check(rt, given.files.as_slice());
-    checked(rt, folder, given.files.as_slice(), options.format)
+    let files = given.files.as_slice();
+    checked(rt, options.profile, folder, files, options.format)
 }
 
 /// What a check of the base finds, whose operations are also those of the manifests.
@@ -27,13 +30,16 @@ fn findings_before(
     folder: &str,
     options: &CheckOptions,
 ) -> Result<Findings, Failure> {
-    let given = given_files(rt, folder, options.manifests.as_slice())?;
-    checked(rt, folder, given.files.as_slice(), options.format)
+    let limits = &options.profile.limits;
+    let given = given_files(rt, limits, folder, options.manifests.as_slice())?;
+    let files = given.files.as_slice();
+    checked(rt, options.profile, folder, files, options.format)
 }
 
 /// The failure of files that are not checked. For annotations, it is one of them, too.
 pub fn refusal(
     rt: &HostRuntime,
+    profile: Profile,
     folder: &str,
     files: &[GivenFile],
     format: Format,
@@ -44,20 +50,22 @@ pub fn refusal(
             let _ = rt.print(text);
         }
     }
-    Ok(Failure::Refused(refusal_text(rt.alloc(), folder, files, fault)?))
+    let text = refusal_text(rt.alloc(), profile, folder, files, fault)?;
+    Ok(Failure::Refused(text))
 }
 
-/// What a check of the files of a folder finds.
+/// What a check of the files of a folder by this profile finds.
 pub fn checked(
     rt: &HostRuntime,
+    profile: Profile,
     folder: &str,
     files: &[GivenFile],
     format: Format,
 ) -> Result<Findings, Failure> {
-    match check_files(rt.alloc(), folder, files) {
+    match check_files(rt.alloc(), profile, folder, files) {
         Ok(findings) => Ok(findings),
         Err(CheckFault::Memory) => Err(Failure::Memory),
-        Err(fault) => Err(refusal(rt, folder, files, format, &fault)?),
+        Err(fault) => Err(refusal(rt, profile, folder, files, format, &fault)?),
     }
 }
 

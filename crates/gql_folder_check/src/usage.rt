@@ -15,16 +15,16 @@ fn answer(
     options: &UsageOptions,
     files: &[GivenFile],
 ) -> Result<Vec<u8>, UsageFault> {
-    let folder = options.folder.as_str();
+    let (profile, folder) = (options.profile, options.folder.as_str());
     let format = match options.format {
         UsageFormat::Text => AnswerFormat::Text,
         UsageFormat::Json => AnswerFormat::Json,
     };
     match &options.question {
         UsageQuestion::ReadersOf(part) => {
-            readers_in(rt.alloc(), folder, files, part.as_str(), format)
+            readers_in(rt.alloc(), profile, folder, files, part.as_str(), format)
         }
-        UsageQuestion::Unread => unread_in(rt.alloc(), folder, files, format),
+        UsageQuestion::Unread => unread_in(rt.alloc(), profile, folder, files, format),
     }
 }
 
@@ -39,12 +39,15 @@ fn faulty_text(rt: &HostRuntime, folder: &str, faults: usize) -> Result<String, 
 /// Says why there is no answer.
 fn unanswered(
     rt: &HostRuntime,
-    folder: &str,
+    options: &UsageOptions,
     files: &[GivenFile],
     fault: UsageFault,
 ) -> Result<Answered, Failure> {
+    let (profile, folder) = (options.profile, options.folder.as_str());
     match fault {
-        UsageFault::Files(fault) => Err(refusal(rt, folder, files, Format::Text, &fault)?),
+        UsageFault::Files(fault) => {
+            Err(refusal(rt, profile, folder, files, Format::Text, &fault)?)
+        }
         UsageFault::FaultySchema { faults } => {
             let _ = rt.eprintln(faulty_text(rt, folder, faults)?);
             Ok(Answered::FaultySchema)
@@ -56,8 +59,8 @@ fn unanswered(
 
 /// Answers a question about the use of the schema of a folder.
 fn usage(rt: &HostRuntime, options: &UsageOptions) -> Result<Answered, Failure> {
-    let folder = options.folder.as_str();
-    let given = given_files(rt, folder, options.manifests.as_slice())?;
+    let (limits, folder) = (&options.profile.limits, options.folder.as_str());
+    let given = given_files(rt, limits, folder, options.manifests.as_slice())?;
     tell_made(rt, &given);
     let files = given.files.as_slice();
     match answer(rt, options, files) {
@@ -65,7 +68,7 @@ fn usage(rt: &HostRuntime, options: &UsageOptions) -> Result<Answered, Failure> 
             Ok(()) => Ok(Answered::Written),
             Err(_) => Err(Failure::Closed),
         },
-        Err(fault) => unanswered(rt, folder, files, fault),
+        Err(fault) => unanswered(rt, options, files, fault),
     }
 }
 

@@ -3,6 +3,7 @@
 use crate::options::{FORMATS, USAGE_FORMATS};
 use clap::builder::ValueParser;
 use clap::{Arg, ArgAction, Command, value_parser};
+use gql_command::PROFILES;
 use std::alloc::{AllocError, Global};
 
 /// The end of the help of `check`.
@@ -46,6 +47,14 @@ fn manifest<'a>(alloc: Global) -> Arg<'a> {
         .help("Add the operations of this manifest, each as a document; may be given again")
 }
 
+fn profile<'a>(alloc: Global) -> Arg<'a> {
+    Arg::new(alloc, "profile")
+        .long("profile")
+        .value_name("NAME")
+        .value_parser(PROFILES.as_slice())
+        .help("The profile of the registry that is meant; october-2021 if left out")
+}
+
 fn output<'a>(alloc: Global) -> Arg<'a> {
     Arg::new(alloc, "output")
         .long("output")
@@ -57,6 +66,7 @@ fn output<'a>(alloc: Global) -> Arg<'a> {
 fn check<'a>(alloc: Global) -> Result<Command<'a>, AllocError> {
     let arguments = vec![in alloc;
         folder(alloc),
+        profile(alloc),
         base(alloc),
         manifest(alloc),
         format(alloc),
@@ -126,6 +136,7 @@ fn push<'a>(alloc: Global) -> Result<Command<'a>, AllocError> {
     let force = "Put all files, although somebody else has edited the registry";
     let arguments = vec![in alloc;
         folder(alloc),
+        profile(alloc),
         server(alloc),
         manifest(alloc),
         flag(
@@ -180,6 +191,7 @@ fn usage<'a>(alloc: Global) -> Result<Command<'a>, AllocError> {
     let part = part(alloc)?;
     let arguments = vec![in alloc;
         folder(alloc),
+        profile(alloc),
         part,
         flag(alloc, "unused", unused),
         manifest(alloc),

@@ -1,6 +1,8 @@
 //! What commands on a folder are to read, and how they are to write.
 
 use clap::ArgMatches;
+use gql_ast::Profile;
+use gql_command::profile_named;
 use std::alloc::{AllocError, Global};
 
 /// How a check is written.
@@ -42,6 +44,8 @@ impl Format {
 pub struct CheckOptions {
     /// The folder that is checked.
     pub folder: String,
+    /// What is served, and how much, by the registry that is checked for.
+    pub profile: Profile,
     /// The folder that it is compared with.
     pub base: Option<String>,
     /// The manifests whose operations are checked with those of the folder.
@@ -79,11 +83,21 @@ fn texts_of(
     Ok(texts)
 }
 
+/// The profile of a command on a folder; `october-2021` if none is named.
+fn profile_in(matches: &ArgMatches<'_>) -> Profile {
+    match matches.get_str("profile") {
+        Some(name) => profile_named(name).unwrap_or(Profile::october_2021()),
+        None => Profile::october_2021(),
+    }
+}
+
 /// What a push reads, and where it puts what it reads.
 #[derive(Debug, Drop)]
 pub struct PushOptions {
     /// The folder that is pushed.
     pub folder: String,
+    /// The profile by which the folder is checked before.
+    pub profile: Profile,
     /// The manifests whose operations are pushed with those of the folder.
     pub manifests: Vec<String>,
     /// The server: its host and its port.
@@ -104,6 +118,7 @@ pub struct PushOptions {
 pub fn push_options(alloc: Global, matches: &ArgMatches<'_>) -> Result<PushOptions, AllocError> {
     Ok(PushOptions {
         folder: folder_of(alloc, matches)?,
+        profile: profile_in(matches),
         manifests: texts_of(alloc, matches, "manifest")?,
         server: match text_of(alloc, matches, "to")? {
             Some(server) => server,
@@ -134,6 +149,7 @@ pub fn check_options(alloc: Global, matches: &ArgMatches<'_>) -> Result<CheckOpt
     };
     Ok(CheckOptions {
         folder,
+        profile: profile_in(matches),
         base: text_of(alloc, matches, "base")?,
         manifests: texts_of(alloc, matches, "manifest")?,
         format,
@@ -167,6 +183,8 @@ pub enum UsageQuestion {
 pub struct UsageOptions {
     /// The folder whose schema it is.
     pub folder: String,
+    /// The profile of the registry that is asked about.
+    pub profile: Profile,
     /// The manifests whose operations count with those of the folder.
     pub manifests: Vec<String>,
     /// What is asked.
@@ -187,6 +205,7 @@ pub fn usage_options(alloc: Global, matches: &ArgMatches<'_>) -> Result<UsageOpt
     };
     Ok(UsageOptions {
         folder: folder_of(alloc, matches)?,
+        profile: profile_in(matches),
         manifests: texts_of(alloc, matches, "manifest")?,
         question,
         format,

@@ -1,6 +1,7 @@
 //! The files that a command is given: those of a folder, and those that manifests are made into.
 
 use crate::failure::Failure;
+use gql_ast::Limits;
 use gql_disk::{find_files, read_manifest};
 use gql_folder::GivenFile;
 use gql_manifest::{
@@ -39,9 +40,15 @@ fn made_of(rt: &HostRuntime, paths: &[String]) -> Result<FromManifests, Failure>
     }
 }
 
-/// The files of a folder, with those that the manifests at these paths are made into.
-pub fn given_files(rt: &HostRuntime, folder: &str, manifests: &[String]) -> Result<Given, Failure> {
-    let mut files = find_files(rt, folder)?;
+/// The files of a folder that are within these limits, with those that the manifests at these paths
+/// are made into.
+pub fn given_files(
+    rt: &HostRuntime,
+    limits: &Limits,
+    folder: &str,
+    manifests: &[String],
+) -> Result<Given, Failure> {
+    let mut files = find_files(rt, limits, folder)?;
     if manifests.is_empty() {
         return Ok(Given { files, made: None });
     }

@@ -11,7 +11,7 @@ use Rattle.gql_schema_rules.specs.SchemaFaults.{IsSchemaFault}
 
 -- the schema files without a part, and no document files
 abbrev pub files_left : Subject → Files → Files
-files_left s files = record { schema = schema_left s files.schema; documents = [] }
+files_left s files = record files { schema = schema_left s files.schema; documents = [] }
 
 -- a fault that the schema has without the part, and does not have with it
 abbrev pub IsBrought : Subject → Files → Fault → Type 0

@@ -1,6 +1,7 @@
 -- What is known of the files of a folder.
 use Rattle.std.specs.Prelude.{◌≡◌, List}
 use Rattle.gql_ast.specs.declared.files.Files.{Files}
+use Rattle.gql_ast.specs.declared.profile.Profile.{Profile}
 use Rattle.gql_check.specs.Loads.{IsLoaded}
 use Rattle.gql_facts.specs.Facts.{fact_of}
 use Rattle.gql_folder.specs.declared.folder.GivenFile.{GivenFile}
@@ -17,10 +18,10 @@ pub record IsStoredOf (files : Files) (s : Stored) : Type 0 where
   pub facts : facts_of s ≡ fact_of files
   pub definitions : s.definitions.items ≡ all_definitions files.documents
 
--- The registry holds these files of a folder, whose schema has no fault. The schema is theirs, and so
--- is what is stored.
-pub record IsLoadedFrom (given : List GivenFile) (l : Loaded) : Type 0 where
-  pub registry : IsLoaded given l.registry
+-- The registry, of this profile, holds these files of a folder, whose schema has no fault. The schema is
+-- theirs, and so is what is stored.
+pub record IsLoadedFrom (p : Profile) (given : List GivenFile) (l : Loaded) : Type 0 where
+  pub registry : IsLoaded p given l.registry
   pub sound : IsSound (state_of l.registry).files
   pub schema : l.schema ≡ schema_of (state_of l.registry).files
   pub stored : IsStoredOf (state_of l.registry).files l.stored

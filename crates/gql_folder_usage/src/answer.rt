@@ -4,6 +4,7 @@ use crate::brought::faults_brought;
 use crate::fault::UsageFault;
 use crate::loaded::{Loaded, load_folder};
 use crate::words::{misspelt_text, no_part_text};
+use gql_ast::Profile;
 use gql_folder::GivenFile;
 use gql_removal::{Asked, Removal, Subject, read_subject, removal_of};
 use gql_usage::{
@@ -76,15 +77,16 @@ fn written(
 }
 
 /// Which operations and fragments of these files of a folder read the part of its schema that a
-/// word names, and which faults the removal of the part brings to the schema.
+/// word names, and which faults the removal of the part brings to the schema, by this profile.
 pub fn readers_in(
     alloc: Global,
+    profile: Profile,
     folder: &str,
     given: &[GivenFile],
     word: &str,
     format: AnswerFormat,
 ) -> Result<Vec<u8>, UsageFault> {
-    let loaded = load_folder(alloc, folder, given)?;
+    let loaded = load_folder(alloc, profile, folder, given)?;
     let subject = subject_of(alloc, word)?;
     let asked = asked_by(alloc, folder, &loaded, &subject)?;
     let shelf = loaded.registry.shelf();
@@ -100,14 +102,16 @@ pub fn readers_in(
     Ok(written(alloc, &usage, &loaded.paths, format)?)
 }
 
-/// Which parts of the schema of these files of a folder no operation or fragment of them reads.
+/// Which parts of the schema of these files of a folder no operation or fragment of them reads, by
+/// this profile.
 pub fn unread_in(
     alloc: Global,
+    profile: Profile,
     folder: &str,
     given: &[GivenFile],
     format: AnswerFormat,
 ) -> Result<Vec<u8>, UsageFault> {
-    let loaded = load_folder(alloc, folder, given)?;
+    let loaded = load_folder(alloc, profile, folder, given)?;
     let shelf = loaded.registry.shelf();
     let unread = unread_parts(alloc, &loaded.schema, &loaded.stored, shelf)?;
     let unread = unread.as_slice();

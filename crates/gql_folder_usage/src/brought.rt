@@ -34,6 +34,7 @@ fn files_left(alloc: Global, subject: &Subject, files: &Files) -> Result<Files, 
     ensures { IfOk result (λ left. left ≡ spec.files_left subject.now files.now) }
 {
     Ok(Files {
+        profile: files.profile,
         schema: schema_left(alloc, subject, &files.schema)?,
         documents: FileMap::new(alloc),
     })

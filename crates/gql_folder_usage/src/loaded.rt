@@ -5,7 +5,7 @@ ghost use Rattle.gql_registry.specs.Report.{IsSound};
 ghost use Rattle.gql_registry.specs.State.{state_of};
 
 use crate::fault::UsageFault;
-use gql_ast::Files;
+use gql_ast::{Files, Profile};
 use gql_check::{CheckFault, load_files};
 use gql_folder::{GivenFile, read_folder};
 use gql_registry::Registry;
@@ -34,23 +34,33 @@ fn test_schema(registry: &Registry) -> Result<(), UsageFault>
     Err(UsageFault::FaultySchema { faults })
 }
 
-/// The paths of these files of a folder.
-fn paths_in(alloc: Global, folder: &str, given: &[GivenFile]) -> Result<Paths, UsageFault> {
-    match read_folder(alloc, given) {
+/// The paths of these files of a folder, where there may be so many of a side.
+fn paths_in(
+    alloc: Global,
+    folder: &str,
+    given: &[GivenFile],
+    most: usize,
+) -> Result<Paths, UsageFault> {
+    match read_folder(alloc, given, most) {
         Ok(named) => Ok(Paths::new(alloc, folder, &named, given)?),
         Err(fault) => Err(UsageFault::from(CheckFault::from(fault))),
     }
 }
 
-/// What is known of the files of a folder, if its schema has no fault.
-pub fn load_folder(alloc: Global, folder: &str, given: &[GivenFile]) -> Result<Loaded, UsageFault>
-    ensures { IfOk result (IsLoadedFrom given.now) }
+/// What is known of the files of a folder, if its schema has no fault by this profile.
+pub fn load_folder(
+    alloc: Global,
+    profile: Profile,
+    folder: &str,
+    given: &[GivenFile],
+) -> Result<Loaded, UsageFault>
+    ensures { IfOk result (IsLoadedFrom profile given.now) }
 {
-    let registry = load_files(alloc, given)?;
+    let registry = load_files(alloc, profile, given)?;
     test_schema(&registry)?;
     let schema = assemble(alloc, registry.files())?;
     let stored = Stored::new(alloc, &schema, registry.files())?;
-    let paths = paths_in(alloc, folder, given)?;
+    let paths = paths_in(alloc, folder, given, profile.limits.files)?;
     Ok(Loaded {
         registry,
         schema,

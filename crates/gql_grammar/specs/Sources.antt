@@ -10,14 +10,16 @@ use Rattle.gql_grammar.specs.Files.{Accepts, Refuses, refusal_of}
 use Rattle.gql_grammar.specs.declared.fault.SyntaxFault.{SyntaxFault}
 use Rattle.gql_grammar.specs.declared.fault.SyntaxFault.TheVariants.{At}
 
--- the symbol accepts the tokens of the source as this value
-abbrev pub IsSourceOf : {A : Type 0} {d : ℕ → ℕ} {s : Bool} → Symbol d s A → List ℕ → A → Type 0
-IsSourceOf p source a = (ts : List Lexeme) × IsLexed source ts × Accepts p ts a
-
--- the fault of a source: one of the lexer, or one with which the symbol refuses its tokens
-abbrev pub IsFaultOf : {A : Type 0} {d : ℕ → ℕ} {s : Bool} → Symbol d s A → List ℕ → SyntaxFault
+-- the symbol accepts the tokens of the source, of at most so many bytes, as this value
+abbrev pub IsSourceOf : {A : Type 0} {d : ℕ → ℕ} {s : Bool} → Symbol d s A → ℕ → List ℕ → A
     → Type 0
-IsFaultOf p source fault =
-    ((number : LexRefusal) × (place : Place) × LexFails source number place
+IsSourceOf p limit source a = (ts : List Lexeme) × IsLexed limit source ts × Accepts p ts a
+
+-- the fault of a source, where it may have so many bytes: one of the lexer, or one with which the
+-- symbol refuses its tokens
+abbrev pub IsFaultOf : {A : Type 0} {d : ℕ → ℕ} {s : Bool} → Symbol d s A → ℕ → List ℕ
+    → SyntaxFault → Type 0
+IsFaultOf p limit source fault =
+    ((number : LexRefusal) × (place : Place) × LexFails limit source number place
     × (At (refusal_of number) place ≡ fault))
-    ⊎ ((ts : List Lexeme) × IsLexed source ts × Refuses p (place_after source) ts fault)
+    ⊎ ((ts : List Lexeme) × IsLexed limit source ts × Refuses p (place_after source) ts fault)

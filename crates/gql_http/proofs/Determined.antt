@@ -17,6 +17,7 @@ use Rattle.gql_http.specs.Answers.{Said, answer_bytes, edit_said, report_said, r
 use Rattle.gql_http.specs.Connections.{requests_of, joined, held_after, Serves, Breaks}
 use Rattle.gql_http.specs.Events.{with_connection, does_open, does_feed, does_break, does_close, ignores}
 use Rattle.gql_http.specs.Laws.{OneStep, OneRun, OneDeed}
+use Rattle.gql_http.specs.Limits.{limit_in}
 use Rattle.gql_http.specs.Routes.{Call, report, put, remove, put_data, run, refused, call_of}
 use Rattle.gql_http.specs.Service.{Calls, Edits, Run, Runs, calls, gives_text, bad_body, done, more}
 use Rattle.serde_json.specs.Data.{Data}
@@ -105,13 +106,13 @@ module _ (edits : OneEdit) (calls_one : OneCall) (reports : OneReport) where
   module _ (split : OneSplit) where
     one_service : (s t u : State) (bytes a b : List ℕ) (p q : Option (List ℕ)) → Serves s bytes a t p → Serves s bytes b u q → (a ≡ b) × (t ≡ u) × (p ≡ q)
     one_service s t u bytes a b p q h k =
-        let same = split 0 bytes h.requests k.requests h.rest k.rest h.splits k.splits in
+        let same = split (limit_in s) 0 bytes h.requests k.requests h.rest k.rest h.splits k.splits in
         let runs = one_run_lem s t u (requests_of h.requests) h.answers k.answers h.run (subst (λ ps. Run s (requests_of ps) k.answers u) (sym same.0) k.run) in
         (h.written ∙ ap joined runs.0 ∙ sym k.written, runs.1, h.left ∙ ap₂ (λ ps r. held_after (requests_of ps) r) same.0 same.1 ∙ sym k.left)
 
     one_break : (s t u : State) (bytes a b : List ℕ) (made : ℕ) → Breaks s bytes a t made → Breaks s bytes b u made → (a ≡ b) × (t ≡ u)
     one_break s t u bytes a b made h k =
-        let same = split 0 bytes h.requests k.requests h.rest k.rest h.splits k.splits in
+        let same = split (limit_in s) 0 bytes h.requests k.requests h.rest k.rest h.splits k.splits in
         let runs = one_run_lem s t u (take made (requests_of h.requests)) h.answers k.answers h.run (subst (λ ps. Run s (take made (requests_of ps)) k.answers u) (sym same.0) k.run) in
         (h.written ∙ ap joined runs.0 ∙ sym k.written, runs.1)
 

@@ -10,6 +10,7 @@ use Rattle.gql_wire.specs.Laws.{MoreBytes, SomeSplit, OneSplit, NothingUnfinishe
 use Rattle.gql_http.specs.Connections.{requests_of, joined, is_closed, Serves, Breaks}
 use Rattle.gql_http.specs.Events.{Event, feeds, breaks, connection_of, Connections, Does, does_open, does_feed, does_break, does_close, ignores}
 use Rattle.gql_http.specs.Hubs.{is_unfinished, IsFeedOf}
+use Rattle.gql_http.specs.Limits.{limit_in}
 use Rattle.gql_http.specs.Pipes.{IsPrompt, IsExchange, ReadsPieces, most_bytes}
 use Rattle.gql_http.specs.declared.piping.PipeEnd.{PipeEnd}
 use Rattle.gql_http.specs.declared.piping.PipeEnd.TheVariants as ends
@@ -17,6 +18,7 @@ use Rattle.gql_http.specs.declared.piping.PipeFault.{PipeFault}
 use Rattle.gql_http.specs.declared.piping.PipeFault.TheVariants as faults
 use Rattle.gql_http.specs.Service.{Run}
 use Rattle.gql_http.proofs.Framers.{changed, unchanged}
+use Rattle.gql_http.proofs.KeptLimit.{run_limit}
 use Rattle.gql_http.proofs.Joining.{serves_join, serves_nothing, stays_open, run_append, joined_append, whole, some_same}
 
 -- what was received so far is answered, and the connection is open
@@ -182,7 +184,8 @@ module _ (some : SomeSplit) (one : OneSplit) (more_bytes : MoreBytes) where
   breaks_join {s} {u} {t} {a} {out} {more_out} {held} b made h k =
       let opened = left_open (is_closed (requests_of h.requests)) refl h.left in
       let unclosed = stays_open h.requests opened.0 in
-      let w = whole some one more_bytes a b held k.rest h.requests k.requests (subst (λ r. Splits 0 a h.requests r) (sym opened.1) h.splits) unclosed k.splits in
+      let w = whole some one more_bytes a b held k.rest h.requests k.requests (subst (λ r. Splits (limit_in s) 0 a h.requests r) (sym opened.1) h.splits) unclosed
+      (subst (λ n. Splits n 0 (held ++ b) k.requests k.rest) (run_limit h.run) k.splits) in
       let both : take (length h.requests + made) (requests_of (h.requests ++ w.further)) ≡ requests_of h.requests ++ take made (requests_of k.requests) =
       front_then h.requests w.further made ∙ ap (λ rs. requests_of h.requests ++ take made rs) w.same in (
         length h.requests + made,

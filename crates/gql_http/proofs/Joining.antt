@@ -7,7 +7,9 @@ use Rattle.gql_wire.specs.Stream.{Req, Placed, Splits, unfinished, last, next, c
 use Rattle.gql_wire.specs.Laws.{MoreBytes, SomeSplit, OneSplit, NothingUnfinished, EndsWithinFirst, EndsAfterFirst}
 use Rattle.gql_http.specs.Service.{Run, done, more}
 use Rattle.gql_http.specs.Connections.{requests_of, joined, is_closed, Serves}
+use Rattle.gql_http.specs.Limits.{limit_in}
 use Rattle.gql_http.specs.Order.{completed_after}
+use Rattle.gql_http.proofs.KeptLimit.{run_limit}
 
 -- the requests, this many bytes later
 abbrev pub later : ℕ → List Placed → List Placed
@@ -17,15 +19,15 @@ pub requests_later : (k : ℕ) (ps : List Placed) → requests_of (later k ps) �
 requests_later k [] = refl
 requests_later k (p ∷ ps) = ap (λ rs. p.request ∷ rs) (requests_later k ps)
 
-pub splits_later : (k at : ℕ) (bytes : List ℕ) (rs : List Placed) (r : List ℕ) → Splits at bytes rs r → Splits (k + at) bytes (later k rs) r
+pub splits_later : {limit : ℕ} → (k at : ℕ) (bytes : List ℕ) (rs : List Placed) (r : List ℕ) → Splits limit at bytes rs r → Splits limit (k + at) bytes (later k rs) r
 splits_later k at bytes _ r (unfinished u e) = unfinished u e
-splits_later k at bytes _ _ (last {front = a} m {r = x} g c e) =
+splits_later {limit} k at bytes _ _ (last {front = a} m {r = x} g c e) =
     let same : ◌≡◌ {A = Placed} (record { request = x; end = (k + at) + length a }) (record { request = x; end = k + (at + length a) }) = ap (λ n. record { request = x; end = n }) (add_assoc k at (length a)) in
-    subst (λ (p : Placed). Splits (k + at) bytes (p ∷ []) []) same (last m g c e)
-splits_later k at bytes _ r (next {front = a} {more = m} {r = x} {rs = xs} g c e s) =
+    subst (λ (p : Placed). Splits limit (k + at) bytes (p ∷ []) []) same (last m g c e)
+splits_later {limit} k at bytes _ r (next {front = a} {more = m} {r = x} {rs = xs} g c e s) =
     let same : ◌≡◌ {A = Placed} (record { request = x; end = (k + at) + length a }) (record { request = x; end = k + (at + length a) }) = ap (λ n. record { request = x; end = n }) (add_assoc k at (length a)) in
-    let after_it : Splits ((k + at) + length a) m (later k xs) r = subst (λ n. Splits n m (later k xs) r) (sym (add_assoc k at (length a))) (splits_later k (at + length a) m xs r s) in
-    subst (λ (p : Placed). Splits (k + at) bytes (p ∷ later k xs) r) same (next g c e after_it)
+    let after_it : Splits limit ((k + at) + length a) m (later k xs) r = subst (λ n. Splits limit n m (later k xs) r) (sym (add_assoc k at (length a))) (splits_later k (at + length a) m xs r s) in
+    subst (λ (p : Placed). Splits limit (k + at) bytes (p ∷ later k xs) r) same (next g c e after_it)
 
 stays_by : (b : Bool) (rs : List Placed) → cond b true (is_closed (requests_of rs)) ≡ false → (is_closed (requests_of rs) ≡ false → StaysOpen rs) → (b ≡ false) × StaysOpen rs
 stays_by true rs h go = absurd (let e : true ≡ false = h in cc)
@@ -102,35 +104,35 @@ later_ones n ps qs early late =
 -- ---- whole bytes, of which the requests so far left a rest
 
 -- the requests of all bytes, where those of the rest and of a piece are known
-pub record Whole (bytes piece : List ℕ) (before : List Placed) (after : List Placed) (left : List ℕ) : Type 0 where
+pub record Whole (limit : ℕ) (bytes piece : List ℕ) (before : List Placed) (after : List Placed) (left : List ℕ) : Type 0 where
   pub further : List Placed
-  pub splits : Splits 0 (bytes ++ piece) (before ++ further) left
+  pub splits : Splits limit 0 (bytes ++ piece) (before ++ further) left
   pub same : requests_of further ≡ requests_of after
   pub early : All (EndsWithinFirst (length bytes)) before
   pub late : All (EndsAfterFirst (length bytes)) further
 
 module _ (some : SomeSplit) (one : OneSplit) (more_bytes : MoreBytes) where
-  pub whole : (bytes piece held left : List ℕ) (before after : List Placed) → Splits 0 bytes before held → StaysOpen before → Splits 0 (held ++ piece) after left
-      → Whole bytes piece before after left
-  whole bytes piece held left before after h unclosed k =
-      let all = some 0 (bytes ++ piece) in
-      let m = more_bytes 0 bytes piece before all.0 held all.1 h unclosed all.2 in
+  pub whole : {limit : ℕ} → (bytes piece held left : List ℕ) (before after : List Placed) → Splits limit 0 bytes before held → StaysOpen before → Splits limit 0 (held ++ piece) after left
+      → Whole limit bytes piece before after left
+  whole {limit} bytes piece held left before after h unclosed k =
+      let all = some limit 0 (bytes ++ piece) in
+      let m = more_bytes limit 0 bytes piece before all.0 held all.1 h unclosed all.2 in
       let n = 0 + (length bytes - length held) in
-      let moved : Splits n (held ++ piece) (later n after) left = subst (λ i. Splits i (held ++ piece) (later n after) left) (omega arith) (splits_later n 0 (held ++ piece) after left k) in
-      let same = one n (held ++ piece) m.0 (later n after) all.1 left m.2 moved in
+      let moved : Splits limit n (held ++ piece) (later n after) left = subst (λ i. Splits limit i (held ++ piece) (later n after) left) (omega arith) (splits_later n 0 (held ++ piece) after left k) in
+      let same = one limit n (held ++ piece) m.0 (later n after) all.1 left m.2 moved in
       record {
         further = m.0;
-        splits = subst (λ r. Splits 0 (bytes ++ piece) (before ++ m.0) r) same.1 (subst (λ ps. Splits 0 (bytes ++ piece) ps all.1) m.1 all.2);
+        splits = subst (λ r. Splits limit 0 (bytes ++ piece) (before ++ m.0) r) same.1 (subst (λ ps. Splits limit 0 (bytes ++ piece) ps all.1) m.1 all.2);
         same = ap requests_of same.0 ∙ requests_later n after;
         early = subst (λ i. All (EndsWithinFirst i) before) (zero-add (length bytes)) m.3;
         late = subst (λ i. All (EndsAfterFirst i) m.0) (zero-add (length bytes)) m.4;
       }
 
 -- the requests of all bytes are those so far and further ones, which are complete later
-pub continued : MoreBytes → (bytes piece left rest : List ℕ) (before all : List Placed) → Splits 0 bytes before left → StaysOpen before → Splits 0 (bytes ++ piece) all rest
+pub continued : {limit : ℕ} → MoreBytes → (bytes piece left rest : List ℕ) (before all : List Placed) → Splits limit 0 bytes before left → StaysOpen before → Splits limit 0 (bytes ++ piece) all rest
     → (further : List Placed) × (all ≡ before ++ further) × (completed_after (length bytes) all ≡ requests_of further)
-continued more_bytes bytes piece left rest before all h stays k =
-    let m = more_bytes 0 bytes piece before all left rest h stays k in
+continued {limit} more_bytes bytes piece left rest before all h stays k =
+    let m = more_bytes limit 0 bytes piece before all left rest h stays k in
     let early = subst (λ i. All (EndsWithinFirst i) before) (zero-add (length bytes)) m.3 in
     let late = subst (λ i. All (EndsAfterFirst i) m.0) (zero-add (length bytes)) m.4 in
     (m.0, m.1, ap (completed_after (length bytes)) m.1 ∙ later_ones (length bytes) before m.0 early late)
@@ -143,8 +145,8 @@ pub serves_join : (some : SomeSplit) → (one : OneSplit) → (more_bytes : More
 serves_join some one more_bytes {s} {u} {t} {a} {out} {more_out} {held} b {rest} h k =
     let opened = left_open (is_closed (requests_of h.requests)) refl h.left in
     let unclosed = stays_open h.requests opened.0 in
-    let first : Splits 0 a h.requests held = subst (λ r. Splits 0 a h.requests r) (sym opened.1) h.splits in
-    let w = whole some one more_bytes a b held k.rest h.requests k.requests first unclosed k.splits in
+    let first : Splits (limit_in s) 0 a h.requests held = subst (λ r. Splits (limit_in s) 0 a h.requests r) (sym opened.1) h.splits in
+    let w = whole some one more_bytes a b held k.rest h.requests k.requests first unclosed (subst (λ n. Splits n 0 (held ++ b) k.requests k.rest) (run_limit h.run) k.splits) in
     let both : requests_of (h.requests ++ w.further) ≡ requests_of h.requests ++ requests_of k.requests = requests_append h.requests w.further ∙ ap (λ rs. requests_of h.requests ++ rs) w.same in
     record {
       requests = h.requests ++ w.further;
@@ -162,4 +164,4 @@ serves_join some one more_bytes {s} {u} {t} {a} {out} {more_out} {held} b {rest}
 
 -- no bytes are answered nothing
 pub serves_nothing : NothingUnfinished → (s : State) → Serves s [] [] s (Some [])
-serves_nothing nothing s = record { requests = []; rest = []; answers = []; splits = unfinished nothing refl; run = done; written = refl; left = refl }
+serves_nothing nothing s = record { requests = []; rest = []; answers = []; splits = unfinished (nothing (limit_in s)) refl; run = done; written = refl; left = refl }

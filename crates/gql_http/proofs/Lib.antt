@@ -6,6 +6,7 @@ pub mod Determined
 pub mod Exchanging
 pub mod Framers
 pub mod Joining
+pub mod KeptLimit
 pub mod Names
 pub mod Ordered
 pub mod Pieces

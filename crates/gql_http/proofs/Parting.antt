@@ -12,11 +12,13 @@ use Rattle.gql_wire.specs.Laws.{MoreBytes, SomeSplit, OneSplit, Closed, RestUnfi
 use Rattle.gql_http.specs.Connections.{requests_of, is_closed, Serves, Breaks}
 use Rattle.gql_http.specs.Events.{Event, breaks, Connections, Does, does_break, ignores}
 use Rattle.gql_http.specs.Hubs.{IsFeedOf}
+use Rattle.gql_http.specs.Limits.{limit_in}
 use Rattle.gql_http.specs.Parts.{Holds, Made, IsServed}
 use Rattle.gql_http.specs.declared.parts.Served.{Served}
 use Rattle.gql_http.specs.Service.{Run, done}
 use Rattle.gql_http.proofs.Exchanging.{adds_nil, adds_append, breaks_join, fed_serves, fed_breaks, none_of}
 use Rattle.gql_http.proofs.Framers.{changed, some_none}
+use Rattle.gql_http.proofs.KeptLimit.{run_limit}
 use Rattle.gql_http.proofs.Joining.{serves_join, stays_open, stays_clash, requests_append, some_same}
 
 -- the parts that were fed so far are answered, and the connection is open
@@ -105,13 +107,13 @@ fed_open s t rests next c piece out held true e is does here open_next = absurd 
 pub holds_left : RestUnfinished → {s u : State} {a out left : List ℕ} {now : Option (List ℕ)} → Serves s a out u (Some left) → now ≡ Some left → Holds u now left
 holds_left unfinished_rest {s} {u} {a} {out} {left} {now} h stays =
     let is = by (is_closed (requests_of h.requests)) h.left in
-    let still = unfinished_rest 0 a h.requests h.rest h.splits in (
+    let still = unfinished_rest (limit_in s) 0 a h.requests h.rest h.splits in (
       stays,
       subst (λ bytes. Serves u bytes [] u (Some bytes)) (sym is) (record {
         requests = [];
         rest = h.rest;
         answers = [];
-        splits = unfinished still.0 (sym still.1);
+        splits = subst (λ n. Splits n 0 h.rest [] h.rest) (sym (run_limit h.run)) (unfinished still.0 (sym still.1));
         run = done;
         written = refl;
         left = refl;
@@ -132,7 +134,7 @@ serves_drop drops {s} {t} {a} {out} b h = record {
   requests = h.requests;
   rest = h.rest;
   answers = h.answers;
-  splits = drops 0 a b h.requests h.rest h.splits (stays_clash h.requests (shut_by (is_closed (requests_of h.requests)) h.rest h.left));
+  splits = drops (limit_in s) 0 a b h.requests h.rest h.splits (stays_clash h.requests (shut_by (is_closed (requests_of h.requests)) h.rest h.left));
   run = h.run;
   written = h.written;
   left = h.left;
@@ -161,20 +163,20 @@ breaks_more some more_bytes drops {s} {t} {a} {out} b made h = by (is_closed (re
         requests = h.requests;
         rest = h.rest;
         answers = h.answers;
-        splits = drops 0 a b h.requests h.rest h.splits (stays_clash h.requests is);
+        splits = drops (limit_in s) 0 a b h.requests h.rest h.splits (stays_clash h.requests is);
         run = h.run;
         written = h.written;
       },
     )
     by false is =
-        let all = some 0 (a ++ b) in
-        let m = more_bytes 0 a b h.requests all.0 h.rest all.1 h.splits (stays_open h.requests is) all.2 in (
+        let all = some (limit_in s) 0 (a ++ b) in
+        let m = more_bytes (limit_in s) 0 a b h.requests all.0 h.rest all.1 h.splits (stays_open h.requests is) all.2 in (
           length (take made (requests_of h.requests)),
           record {
             requests = h.requests ++ m.0;
             rest = all.1;
             answers = h.answers;
-            splits = subst (λ ps. Splits 0 (a ++ b) ps all.1) m.1 all.2;
+            splits = subst (λ ps. Splits (limit_in s) 0 (a ++ b) ps all.1) m.1 all.2;
             run = subst (λ rs. Run s rs h.answers t) (sym (first_requests h.requests m.0 made)) h.run;
             written = h.written;
           },

@@ -11,7 +11,7 @@ use Rattle.std.specs.Map.{keys_of}
 use Rattle.gql_registry.specs.Sides.{files_on}
 use Rattle.gql_registry.specs.Laws.{HoldsAfter, IsOrderedOn, LeavesUnder, under}
 use Rattle.gql_registry.specs.Report.{IsReport}
-use Rattle.gql_registry.specs.State.{State, empty}
+use Rattle.gql_registry.specs.State.{State, empty_in}
 use Rattle.gql_registry.specs.declared.refusal.Refusal.{Refusal}
 use Rattle.gql_registry.specs.declared.registry.Edited.{Edited}
 use Rattle.gql_registry.proofs.OneEdit.{refused as first_refusal}
@@ -146,14 +146,14 @@ module _ (holds : HoldsAfter) where
 
   pub files_present_lem : FilesPresent
   unfolding Rattle.std.specs.List.Sorted.IsStrictlySortedBy
-  files_present_lem t rs answers side name run =
-      subst (λ o. Holds side name empty o rs (under side name t)) (nothing side) (held empty t rs answers side name ordered run)
+  files_present_lem profile t rs answers side name run =
+      subst (λ o. Holds side name (empty_in profile) o rs (under side name t)) (nothing side) (held (empty_in profile) t rs answers side name ordered run)
     where
-      nothing : (on : FileSide) → under on name empty ≡ None
+      nothing : (on : FileSide) → under on name (empty_in profile) ≡ None
       nothing Schema = refl
       nothing Documents = refl
 
-      ordered : (on : FileSide) → IsOrderedOn on empty
+      ordered : (on : FileSide) → IsOrderedOn on (empty_in profile)
       ordered Schema = tt
       ordered Documents = tt
 

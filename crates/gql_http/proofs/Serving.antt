@@ -8,13 +8,14 @@ use Rattle.gql_wire.specs.Stream.{Req, IsRequest, IsUnfinished, Placed, Splits, 
 use Rattle.gql_wire.specs.Laws.{SomeSplit}
 use Rattle.gql_http.specs.Service.{Step, Run, done, more}
 use Rattle.gql_http.specs.Connections.{requests_of, joined, is_closed, Serves, Breaks}
+use Rattle.gql_http.specs.Limits.{limit_in}
 
 -- the requests so far were made, and these bytes are left
 pub record Served (s : State) (whole rest : List ℕ) (u : State) (out : List ℕ) : Type 0 where
   pub made : List Placed
   pub answers : List (List ℕ)
   pub offset : ℕ
-  pub splits : (rs : List Placed) (left : List ℕ) → Splits offset rest rs left → Splits 0 whole (made ++ rs) left
+  pub splits : (rs : List Placed) (left : List ℕ) → Splits (limit_in s) offset rest rs left → Splits (limit_in s) 0 whole (made ++ rs) left
   pub run : Run s (requests_of made) answers u
   pub written : out ≡ joined answers
   pub stays : is_closed (requests_of made) ≡ false
@@ -24,7 +25,7 @@ served_init s whole rest out same empty = record {
   made = [];
   answers = [];
   offset = 0;
-  splits = λ rs left h. subst (λ bytes. Splits 0 bytes rs left) same h;
+  splits = λ rs left h. subst (λ bytes. Splits (limit_in s) 0 bytes rs left) same h;
   run = done;
   written = empty;
   stays = refl;
@@ -67,14 +68,14 @@ closed_made : (made : List Placed) (p : Placed) → is_closed (requests_of made)
 closed_made made p h = ap is_closed (requests_snoc made p) ∙ closed_snoc (requests_of made) p.request h
 
 -- one more request was made, and the connection stays open
-pub served_next : {s u v : State} {whole rest out more_out : List ℕ} → Served s whole rest u out → (front middle : List ℕ) (r : Req) (bytes : List ℕ) → IsRequest front r → closes r ≡ false
+pub served_next : {s u v : State} {whole rest out more_out : List ℕ} → Served s whole rest u out → (front middle : List ℕ) (r : Req) (bytes : List ℕ) → IsRequest (limit_in s) front r → closes r ≡ false
     → front ++ middle ≡ rest → Step u r bytes v → more_out ≡ out ++ bytes → Served s whole middle v more_out
 served_next {s} {u} {v} {whole} {rest} {out} {more_out} h front middle r bytes request stays cut step written =
     let p = at_end_of h.offset front r in record {
       made = h.made ++ p ∷ [];
       answers = h.answers ++ bytes ∷ [];
       offset = h.offset + length front;
-      splits = λ rs left after_it. subst (λ ps. Splits 0 whole ps left) (sym (append_assoc h.made (p ∷ []) rs)) (h.splits (p ∷ rs) left (next request stays cut after_it));
+      splits = λ rs left after_it. subst (λ ps. Splits (limit_in s) 0 whole ps left) (sym (append_assoc h.made (p ∷ []) rs)) (h.splits (p ∷ rs) left (next request stays cut after_it));
       run = run_made s u v h.made p h.answers bytes h.run step;
       written = written_made out more_out bytes h.answers h.written written;
       stays = closed_made h.made p h.stays ∙ stays;
@@ -89,19 +90,19 @@ held_closed true bytes h = refl
 held_closed false bytes h = absurd (let e : false ≡ true = h in cc)
 
 -- no request is left: the rest is held
-pub serves_open : {s u : State} {whole rest out : List ℕ} → Served s whole rest u out → IsUnfinished rest → (left : List ℕ) → left ≡ skip_blank rest → Serves s whole out u (Some left)
+pub serves_open : {s u : State} {whole rest out : List ℕ} → Served s whole rest u out → IsUnfinished (limit_in s) rest → (left : List ℕ) → left ≡ skip_blank rest → Serves s whole out u (Some left)
 serves_open {s} {u} {whole} {rest} {out} h unended left is = record {
   requests = h.made;
   rest = left;
   answers = h.answers;
-  splits = subst (λ ps. Splits 0 whole ps left) (append-nil h.made) (h.splits [] left (unfinished unended is));
+  splits = subst (λ ps. Splits (limit_in s) 0 whole ps left) (append-nil h.made) (h.splits [] left (unfinished unended is));
   run = h.run;
   written = h.written;
   left = held_open (is_closed (requests_of h.made)) left h.stays;
 }
 
 -- a request closes the connection
-pub serves_closed : {s u v : State} {whole rest out more_out : List ℕ} → Served s whole rest u out → (front middle : List ℕ) (r : Req) (bytes : List ℕ) → IsRequest front r → closes r ≡ true
+pub serves_closed : {s u v : State} {whole rest out more_out : List ℕ} → Served s whole rest u out → (front middle : List ℕ) (r : Req) (bytes : List ℕ) → IsRequest (limit_in s) front r → closes r ≡ true
     → front ++ middle ≡ rest → Step u r bytes v → more_out ≡ out ++ bytes → Serves s whole more_out v None
 serves_closed {s} {u} {v} {whole} {rest} {out} {more_out} h front middle r bytes request closing cut step written =
     let p = at_end_of h.offset front r in record {
@@ -122,7 +123,7 @@ front_made (p ∷ made) rs = ap (λ qs. p.request ∷ qs) (front_made made rs)
 -- an allocation failed
 pub served_breaks : SomeSplit → {s u : State} {whole rest out : List ℕ} → Served s whole rest u out → (made : ℕ) × Breaks s whole out u made
 served_breaks some {s} {u} {whole} {rest} {out} h =
-    let others = some h.offset rest in (
+    let others = some (limit_in s) h.offset rest in (
       length h.made,
       record {
         requests = h.made ++ others.0;

@@ -3,6 +3,7 @@ use Rattle.std.specs.Prelude.{ℕ, ◌≡◌, List, [], ◌∷◌, map, take, Bo
 use Rattle.std.specs.List.{flat_map}
 use Rattle.gql_registry.specs.State.{State}
 use Rattle.gql_wire.specs.Stream.{Req, Placed, Requests, closes}
+use Rattle.gql_http.specs.Limits.{limit_in}
 use Rattle.gql_http.specs.Service.{Run}
 
 -- the requests, without the offsets at which they are complete
@@ -22,7 +23,7 @@ is_closed (r ∷ rs) = if closes r then true else is_closed rs
 abbrev pub held_after : List Req → List ℕ → Option (List ℕ)
 held_after requests bytes = if is_closed requests then None else Some bytes
 
--- The bytes are these requests and an unfinished rest. Made one after the other in the state s, the
+-- The bytes are these requests and an unfinished rest, by the limit of bodies in the state s. Made one after the other in the state s, the
 -- requests are answered with `out` and leave the state t. The rest is held unless a request closes
 -- the connection.
 pub record Serves (s : State) (bytes out : List ℕ) (t : State)
@@ -30,7 +31,7 @@ pub record Serves (s : State) (bytes out : List ℕ) (t : State)
   pub requests : List Placed
   pub rest : List ℕ
   pub answers : List (List ℕ)
-  pub splits : Requests bytes requests rest
+  pub splits : Requests (limit_in s) bytes requests rest
   pub run : Run s (requests_of requests) answers t
   pub written : out ≡ joined answers
   pub left : held ≡ held_after (requests_of requests) rest
@@ -41,6 +42,6 @@ pub record Breaks (s : State) (bytes out : List ℕ) (t : State) (made : ℕ) : 
   pub requests : List Placed
   pub rest : List ℕ
   pub answers : List (List ℕ)
-  pub splits : Requests bytes requests rest
+  pub splits : Requests (limit_in s) bytes requests rest
   pub run : Run s (take made (requests_of requests)) answers t
   pub written : out ≡ joined answers

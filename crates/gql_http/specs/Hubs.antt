@@ -3,6 +3,7 @@ use Rattle.std.specs.Prelude.{ℕ, ◌≡◌, List, Option, Some, None, Bool, tr
 use Rattle.gql_registry.specs.State.{State}
 use Rattle.gql_registry.specs.State as registry
 use Rattle.gql_http.specs.Events.{Event, feeds, breaks, Connections}
+use Rattle.gql_http.specs.Limits.{bytes_of}
 use Rattle.gql_http.specs.declared.hub.Hub.{Hub}
 
 -- the state of the service
@@ -11,7 +12,7 @@ service_of hub = registry.state_of hub.registry
 
 -- the unfinished bytes of each connection; none for a closed one
 abbrev pub rests_of : Hub → Connections
-rests_of hub = λ c. get_or hub.framers c None
+rests_of hub = λ c. bytes_of (get_or hub.framers c None)
 
 -- whether bytes of an unfinished request are held
 abbrev pub is_unfinished : Option (List ℕ) → Bool

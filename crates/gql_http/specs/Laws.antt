@@ -2,9 +2,10 @@
 use Rattle.std.specs.Prelude.{ℕ, ◌+◌, ◌≡◌, List, [], ◌∷◌, ◌++◌, Bool, Some, None}
 use Rattle.gql_ast.specs.declared.fault.Fault.{Fault}
 use Rattle.gql_ast.specs.declared.fault.FileSide.{FileSide}
+use Rattle.gql_ast.specs.declared.profile.Profile.{Profile}
 use Rattle.gql_registry.specs.Laws.{under}
 use Rattle.gql_registry.specs.Report.{IsReport}
-use Rattle.gql_registry.specs.State.{State, empty, with_effects}
+use Rattle.gql_registry.specs.State.{State, empty_in, profile_of, with_effects}
 use Rattle.gql_stored.specs.Effects.{Effect}
 use Rattle.gql_wire.specs.Head.{is_head}
 use Rattle.gql_wire.specs.Stream.{Req, request, Placed, Requests}
@@ -12,6 +13,7 @@ use Rattle.gql_http.specs.Answers.{Said, answer_bytes, report_said}
 use Rattle.gql_http.specs.Connections.{requests_of, joined}
 use Rattle.gql_http.specs.Events.{Event, opens, feeds, breaks, closes, Connections, all_closed, Does, Behaves}
 use Rattle.gql_http.specs.History.{AcceptedEdits, DataAfter, Holds}
+use Rattle.gql_http.specs.Limits.{limit_in}
 use Rattle.gql_http.specs.Order.{Order, Answers, on}
 use Rattle.gql_http.specs.Routes.{report, run, call_of}
 use Rattle.gql_http.specs.Service.{Step, Run, Runs}
@@ -33,22 +35,22 @@ OneDeed = (s t u : State) (rests p q : Connections) (e : Event) (a b : List ℕ)
 
 -- every list of events has an order of requests
 abbrev pub SomeOrder : Type 0
-SomeOrder = (fed : Connections) (events : List Event)
-    → (groups : List (List Req)) × (last : Connections) × Order fed events groups last
+SomeOrder = (limit : ℕ) (fed : Connections) (events : List Event)
+    → (groups : List (List Req)) × (last : Connections) × Order limit fed events groups last
 
 -- a list of events has at most one order of requests
 abbrev pub OneOrder : Type 0
-OneOrder = (fed p q : Connections) (events : List Event) (groups others : List (List Req))
-    → Order fed events groups p
-    → Order fed events others q → (groups ≡ others) × (p ≡ q)
+OneOrder = (limit : ℕ) (fed p q : Connections) (events : List Event)
+    (groups others : List (List Req)) → Order limit fed events groups p
+    → Order limit fed events others q → (groups ≡ others) × (p ≡ q)
 
 -- Whatever the events on connections that are all closed at first: the hub answers each event with
 -- the answers to the requests that it completes, and all requests are run one after the other, in
--- the order in which they are complete.
+-- the order in which they are complete, by the limit of bodies in the state before.
 abbrev pub InOrder : Type 0
 InOrder = (s t : State) (events : List Event) (outs : List (List ℕ)) (rests : Connections)
     → Behaves s all_closed events outs t rests
-    → (groups : List (List Req)) × (fed : Connections) × Order all_closed events groups fed
+    → (groups : List (List Req)) × (fed : Connections) × Order (limit_in s) all_closed events groups fed
     × Answers s events groups outs t
 
 -- the event is a feed of this connection, or one on another connection
@@ -78,10 +80,10 @@ pieces_of (e ∷ events) = piece_of e ∷ pieces_of events
 -- The requests that the feeds after an opening complete are those of all bytes that they feed,
 -- whatever the pieces are.
 abbrev pub AnyPieces : Type 0
-AnyPieces = (fed last : Connections) (c : ℕ) (events : List Event) (groups : List (List Req))
+AnyPieces = (limit : ℕ) (fed last : Connections) (c : ℕ) (events : List Event) (groups : List (List Req))
     (requests : List Placed) (rest : List ℕ)
-    → fed c ≡ Some [] → AllFeed c events → Order fed events groups last
-    → Requests (joined (on c events (pieces_of events))) requests rest
+    → fed c ≡ Some [] → AllFeed c events → Order limit fed events groups last
+    → Requests limit (joined (on c events (pieces_of events))) requests rest
     → joined (on c events groups) ≡ requests_of requests
 
 -- A piece that is fed in two parts, the first of which leaves the connection open, does what the
@@ -92,13 +94,18 @@ TwoParts = (s t u : State) (rests between last : Connections) (c : ℕ)
     → between c ≡ Some half → Does t between (feeds c second) b u last
     → Does s rests (feeds c (first ++ second)) (a ++ b) u last
 
--- After requests that began with no files, a name of a side holds the document of its last accepted
--- edit, and no other name holds one.
+-- After requests that began with no files, under any profile, a name of a side holds the document of
+-- its last accepted edit, and no other name holds one.
 abbrev pub FilesPresent : Type 0
-FilesPresent = (t : State) (rs : List Req) (answers : List (List ℕ)) (side : FileSide)
-    (name : List ℕ)
-    → Run empty rs answers t
-    → Holds side name empty None rs (under side name t)
+FilesPresent = (profile : Profile) (t : State) (rs : List Req) (answers : List (List ℕ))
+    (side : FileSide) (name : List ℕ)
+    → Run (empty_in profile) rs answers t
+    → Holds side name (empty_in profile) None rs (under side name t)
+
+-- requests keep the profile, and with it the limit of bodies
+abbrev pub RunKeepsProfile : Type 0
+RunKeepsProfile = (s t : State) (rs : List Req) (answers : List (List ℕ)) → Run s rs answers t
+    → profile_of t ≡ profile_of s
 
 -- A request for the report, among others, is answered with the report of the files that are present
 -- after the requests before it.
@@ -124,7 +131,7 @@ DataPresent = (s t : State) (rs : List Req) (answers : List (List ℕ)) → Run 
 abbrev pub DataInOrder : Type 0
 DataInOrder = (s t : State) (events : List Event) (outs : List (List ℕ)) (rests : Connections)
     → Behaves s all_closed events outs t rests
-    → (groups : List (List Req)) × (fed : Connections) × Order all_closed events groups fed
+    → (groups : List (List Req)) × (fed : Connections) × Order (limit_in s) all_closed events groups fed
     × DataAfter s s.stored (joined groups) t.stored
 
 -- after requests, the revision has grown by the number of accepted edits among them: a mutation is

@@ -6,6 +6,7 @@ pub mod Routes
 pub mod Called
 pub mod Said
 pub mod Service
+pub mod Limits
 pub mod Connections
 pub mod Events
 pub mod Order

@@ -14,31 +14,32 @@ completed_after offset requests =
 -- The requests that an event completes; `fed` has all bytes that each open connection was fed since
 -- it was opened. They are the requests of all these bytes that end in the event's piece; if an
 -- allocation fails, only the first of them count. A connection is closed by a request that closes
--- it, by a failed allocation and by an event; an opening begins its bytes anew.
-pub data Completes : Connections → Event → List Req → Connections → Type 0 where
+-- it, by a failed allocation and by an event; an opening begins its bytes anew. `limit` is the most
+-- bytes of a body.
+pub data Completes (limit : ℕ) : Connections → Event → List Req → Connections → Type 0 where
   by_open : {fed : Connections} {c : ℕ} → IsAllowed fed (opens c)
-      → Completes fed (opens c) [] (with_connection fed c (Some []))
+      → Completes limit fed (opens c) [] (with_connection fed c (Some []))
   by_feed : {fed : Connections} {c : ℕ} {piece bytes rest : List ℕ} {requests : List Placed}
       → fed c ≡ Some bytes
-      → Requests (bytes ++ piece) requests rest
-      → Completes fed (feeds c piece) (completed_after (length bytes) requests)
+      → Requests limit (bytes ++ piece) requests rest
+      → Completes limit fed (feeds c piece) (completed_after (length bytes) requests)
       (with_connection fed c (held_after (requests_of requests) (bytes ++ piece)))
   by_break : {fed : Connections} {c made : ℕ} {piece bytes rest : List ℕ} {requests : List Placed}
       → fed c ≡ Some bytes
-      → Requests (bytes ++ piece) requests rest
-      → Completes fed (breaks c piece made) (take made (completed_after (length bytes) requests))
-      (with_connection fed c None)
+      → Requests limit (bytes ++ piece) requests rest
+      → Completes limit fed (breaks c piece made)
+      (take made (completed_after (length bytes) requests)) (with_connection fed c None)
   by_close : {fed : Connections} {c : ℕ} → IsAllowed fed (closes c)
-      → Completes fed (closes c) [] (with_connection fed c None)
-  by_none : {fed : Connections} {e : Event} → (IsAllowed fed e → ⊥) → Completes fed e [] fed
+      → Completes limit fed (closes c) [] (with_connection fed c None)
+  by_none : {fed : Connections} {e : Event} → (IsAllowed fed e → ⊥) → Completes limit fed e [] fed
 
 -- the requests that each of the events completes
-pub data Order : Connections → List Event → List (List Req) → Connections → Type 0 where
-  no_events : {fed : Connections} → Order fed [] [] fed
+pub data Order (limit : ℕ) : Connections → List Event → List (List Req) → Connections → Type 0 where
+  no_events : {fed : Connections} → Order limit fed [] [] fed
   first : {fed between last : Connections} {e : Event} {group : List Req} {events : List Event}
       {groups : List (List Req)}
-      → Completes fed e group between → Order between events groups last
-      → Order fed (e ∷ events) (group ∷ groups) last
+      → Completes limit fed e group between → Order limit between events groups last
+      → Order limit fed (e ∷ events) (group ∷ groups) last
 
 -- the items that belong to events on this connection; there is one item for each event
 abbrev pub on : {A : Type 0} → ℕ → List Event → List A → List A

@@ -1,7 +1,12 @@
 //! The service and its connections.
+ghost use Rattle.std.specs.Prelude.{◌≡◌, ◌≤◌, IsTrue};
+ghost use Rattle.gql_registry.specs.State.{state_of};
+ghost use Rattle.gql_http.specs.Limits.{all_have_limit, body_limit_of, limit_in};
+
 use crate::serve::serve;
+use gql_ast::Profile;
 use gql_registry::Registry;
-use gql_wire::Framer;
+use gql_wire::{Framer, GREATEST_BODY_LIMIT};
 use std::alloc::Global;
 use thiserror::Error;
 
@@ -39,11 +44,13 @@ impl Drop for Fed {
     }
 }
 
-/// The registry and the connections to it, each with the bytes of an unfinished request.
+/// The registry and the connections to it, each with the bytes of an unfinished request. The limit of
+/// bodies is that of the registry's profile.
 pub struct Hub {
     alloc: Global,
     registry: Registry,
     framers: [Option<Framer>; 16],
+    ghost limits: { IsTrue (all_have_limit (limit_in (state_of registry)) framers) },
 }
 
 impl Drop for Hub {
@@ -54,6 +61,14 @@ impl Drop for Hub {
             framers: _,
         } = self;
     }
+}
+
+/// The most bytes of a body under this profile.
+fn body_limit_of(profile: Profile) -> usize
+    ensures value { result ≡ body_limit_of profile }
+    ensures within { result ≤ GREATEST_BODY_LIMIT }
+{
+    profile.limits.body.min(GREATEST_BODY_LIMIT)
 }
 
 impl Hub {
@@ -112,7 +127,8 @@ impl Hub {
         if self.is_open(connection) {
             return Err(OpenRefusal::AlreadyOpen);
         }
-        self.framers[usize::from(connection)] = Some(Framer::new(self.alloc));
+        let limit = body_limit_of(self.registry.profile());
+        self.framers[usize::from(connection)] = Some(Framer::within(self.alloc, limit));
         Ok(())
     }
 
@@ -168,7 +184,7 @@ impl Hub {
     /// Takes the framer of an open connection, which is closed then.
     fn take_framer(&mut self, connection: u8) -> Option<Framer>
         requires { connection < CONNECTIONS }
-        ensures value { result ≡ rests_of self.old connection }
+        ensures value { result ≡ get_or self.old.framers connection None }
         ensures closed { self.new.framers ≡ slice_set self.old.framers connection None }
         ensures same { service_of self.new ≡ service_of self.old }
     {

@@ -1,5 +1,5 @@
 //! Laws of the service and its hub. The functions do nothing: what they ensure is the law.
-ghost use Rattle.gql_http.specs.Laws.{AnyPieces, CallThen, DataInOrder, DataPresent, FilesPresent, InOrder, OneDeed, OneOrder, OneRun, OneStep, ReportThen, RevisionCounts, SomeOrder, TwoParts};
+ghost use Rattle.gql_http.specs.Laws.{AnyPieces, CallThen, DataInOrder, DataPresent, FilesPresent, InOrder, OneDeed, OneOrder, OneRun, OneStep, ReportThen, RevisionCounts, RunKeepsProfile, SomeOrder, TwoParts};
 
 /// A request has at most one answer, and leaves at most one state.
 pub fn one_step()
@@ -71,6 +71,11 @@ pub fn files_present()
 {
     gql_registry::laws::holds_after();
 }
+
+/// Requests keep the profile, and with it the limit of bodies.
+pub fn run_keeps_profile()
+    ensures { RunKeepsProfile }
+{}
 
 /// A request for the report is answered with the report of the files that are present after the
 /// requests before it.

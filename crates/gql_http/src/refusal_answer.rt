@@ -145,6 +145,12 @@ pub fn refusal_answer(alloc: Global, refusal: &Refusal) -> Result<Answer, AllocE
             "answer is too large",
             number,
         ),
+        Refusal::NotRun => simple(
+            alloc,
+            StatusCode::UNPROCESSABLE_ENTITY,
+            "this operation is not run",
+            number,
+        ),
         Refusal::Memory => Err(AllocError),
         Refusal::Spent => simple(alloc, StatusCode::CONFLICT, "revisions are spent", number),
     }

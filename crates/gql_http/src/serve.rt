@@ -1,8 +1,9 @@
 //! The requests that a piece of bytes completes, answered in their order.
 ghost use Rattle.std.specs.Prelude.{◌≡◌, ◌++◌, ◌≤◌, ℕ, length, drop, IfOk, OnErr, [], if◌then◌else◌, Some, None};
-ghost use Rattle.gql_registry.specs.State.{state_of};
+ghost use Rattle.gql_registry.specs.State.{profile_of, state_of};
 ghost use Rattle.gql_wire.specs.Stream.{closes, req};
 ghost use Rattle.gql_http.specs.Connections.{Serves, Breaks};
+ghost use Rattle.gql_http.specs.Limits.{limit_in};
 
 use crate::service::step;
 use gql_registry::Registry;
@@ -38,12 +39,15 @@ pub fn serve(
     piece: &[u8],
     out: &mut Vec<u8>,
 ) -> Result<bool, AllocError>
-    requires { out.old.items ≡ [] }
+    requires none { out.old.items ≡ [] }
+    requires limit { framer.old.limit ≡ limit_in (state_of registry.old) }
+    ensures limit { framer.new.limit ≡ framer.old.limit }
+    ensures profile { profile_of (state_of registry.new) ≡ profile_of (state_of registry.old) }
     ensures ok { IfOk result (λ closed. Serves (state_of registry.old)
-        (framer.old ++ piece.now) out.new.items (state_of registry.new)
-        (if closed then None else Some framer.new)) }
+        (framer.old.bytes ++ piece.now) out.new.items (state_of registry.new)
+        (if closed then None else Some framer.new.bytes)) }
     ensures err { OnErr result ((made : ℕ)
-        × Breaks (state_of registry.old) (framer.old ++ piece.now) out.new.items
+        × Breaks (state_of registry.old) (framer.old.bytes ++ piece.now) out.new.items
         (state_of registry.new) made) }
 {
     // The law that the bytes after the current request are requests, too.

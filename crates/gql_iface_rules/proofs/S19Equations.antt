@@ -29,7 +29,7 @@ module _ (all : List NumberedObject) where
     list = λ place items each. formed (Literal-F.List place items) (l.List place items) (list place (values_of (map value_of items))) (sym (l.rolls-List place items)) (value_list place items) refl;
     variable = λ place name. formed (Literal-F.Variable place name) (l.Variable place name) (variable place name) (sym (l.rolls-Variable place name)) (value_variable place name) refl;
     int = λ place text. formed (Literal-F.Int place text) (l.Int place text) (int place text) (sym (l.rolls-Int place text)) (value_int place text) refl;
-    float = λ place text. formed (Literal-F.Float place text) (l.Float place text) (float place) (sym (l.rolls-Float place text)) (value_float place text) refl;
+    float = λ place text. formed (Literal-F.Float place text) (l.Float place text) (float place text) (sym (l.rolls-Float place text)) (value_float place text) refl;
     string = λ place text. formed (Literal-F.String place text) (l.String place text) (string place) (sym (l.rolls-String place text)) (value_string place text) refl;
     boolean = λ place truth. formed (Literal-F.Boolean place truth) (l.Boolean place truth) (boolean place) (sym (l.rolls-Boolean place truth)) (value_boolean place truth) refl;
     null = λ place. formed (Literal-F.Null place) (l.Null place) (null place) (sym (l.rolls-Null place)) (value_null place) refl;

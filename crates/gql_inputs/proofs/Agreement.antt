@@ -65,8 +65,8 @@ module _ (u v : InputLookup) where
 
   list_case : (p : Place) (t : Written) (xs : Values) (o : Option Written) → item_of t ≡ o → Agree u v t
       → ((item : Written) → Agree u v item → items_misfits u item xs ≡ items_misfits v item xs)
-      → list_by u p t (λ name. within_values name xs) (λ item. items_misfits u item xs) o ≡ list_by v p t (λ name. within_values name xs) (λ item. items_misfits v item xs) o
-  list_case p t xs None e agree items = where_law t (list_at_one p t (λ name. within_values name xs)) agree
+      → list_by u p t (λ s name. within_values s name xs) (λ item. items_misfits u item xs) o ≡ list_by v p t (λ s name. within_values s name xs) (λ item. items_misfits v item xs) o
+  list_case p t xs None e agree items = where_law t (list_at_one p t (λ s name. within_values s name xs)) agree
   list_case p t xs (Some item) e agree items = items item (agree_item t item e agree)
 
   item_case : (item : Written) (x : Value) (found : List BadValue) → Agree u v item → item_by u item x found ≡ item_by v item x found
@@ -80,8 +80,8 @@ module _ (u v : InputLookup) where
 
   object_case : (p : Place) (t : Written) (fs : Fields) (o : Option InputForm)
       → ((fields : List FieldForm) → o ≡ Some (input_object fields) → fields_misfits u fields fs ≡ fields_misfits v fields fs)
-      → of_known (object_by p t (all_fields fs) (λ name. within_fields name fs) (λ fields. fields_misfits u fields fs)) o
-      ≡ of_known (object_by p t (all_fields fs) (λ name. within_fields name fs) (λ fields. fields_misfits v fields fs)) o
+      → of_known (object_by p t (all_fields fs) (λ s name. within_fields s name fs) (λ fields. fields_misfits u fields fs)) o
+      ≡ of_known (object_by p t (all_fields fs) (λ s name. within_fields s name fs) (λ fields. fields_misfits v fields fs)) o
   object_case p t fs None each = refl
   object_case p t fs (Some (scalar s)) each = refl
   object_case p t fs (Some (enumeration values)) each = refl
@@ -92,13 +92,13 @@ module _ (u v : InputLookup) where
     same_misfits (variable p name) t agree = refl
     same_misfits (null p) t agree = ap (λ r. if is_non_null t then r else []) (never_law p t agree)
     same_misfits (int p text) t agree = where_law t (single_at t (int p text)) agree
-    same_misfits (float p) t agree = where_law t (single_at t (float p)) agree
+    same_misfits (float p text) t agree = where_law t (single_at t (float p text)) agree
     same_misfits (string p) t agree = where_law t (single_at t (string p)) agree
     same_misfits (boolean p) t agree = where_law t (single_at t (boolean p)) agree
     same_misfits (enum p name) t agree = where_law t (single_at t (enum p name)) agree
     same_misfits (list p xs) t agree = list_case p t xs (item_of t) refl agree (λ item a. same_in_items xs item a)
     same_misfits (object p fs) t agree = object_case p t fs (u (name_in t)) (λ fields e. same_in_fields fs fields (λ f c. agree_field t fields f e c agree))
-        ∙ ap (of_known (object_by p t (all_fields fs) (λ name. within_fields name fs) (λ fields. fields_misfits v fields fs))) (agree (name_in t) itself)
+        ∙ ap (of_known (object_by p t (all_fields fs) (λ s name. within_fields s name fs) (λ fields. fields_misfits v fields fs))) (agree (name_in t) itself)
 
     same_in_items : (xs : Values) (item : Written) → Agree u v item → items_misfits u item xs ≡ items_misfits v item xs
     same_in_items no_values item agree = refl

@@ -1,8 +1,8 @@
 -- Lists of faults: there is one in the whole where there is one in a part.
-use Rattle.std.proofs.Common.{◌≡◌, ◌+◌, ◌++◌, ◌<◌, ℕ, List, [], ◌∷◌, Bool, true, false, Some, filter, take, drop, map, flat_map, slice_get, get_or, length, refl, sym, ap, ◌∙◌, arith}
+use Rattle.std.proofs.Common.{◌≡◌, ◌+◌, ◌<◌, ℕ, List, true, false, Some, filter, take, drop, flat_map, slice_get, get_or, length, refl, sym, ap, ◌∙◌, arith}
 use Rattle.std.proofs.lemmas.Grind.{common_steps, flat_map-append}
 use Rattle.std.proofs.lemmas.List.{take-append-drop}
-use Rattle.std.proofs.lemmas.List.Folds.{flat_map-map, length-flat_map-take}
+use Rattle.std.proofs.lemmas.List.Folds.{length-flat_map-take}
 use Rattle.gql_text.specs.declared.place.Place.{Place}
 use Rattle.gql_types.proofs.Filtering.{passes}
 use Rattle.gql_inputs.specs.BadValues.{is_given, is_null_given, lacks, missing}

@@ -35,7 +35,7 @@ module _ (look : InputLookup) where
     object_at_input given (scalar s) known k = cc
     object_at_input given (enumeration values) known k = cc
     object_at_input given (input_object fields) known k =
-        ap (of_known (object_by place t (all_fields (fields_of given)) (λ name. within_fields name (fields_of given)) (λ fs. fields_misfits look fs (fields_of given)))) known
+        ap (of_known (object_by place t (all_fields (fields_of given)) (λ s name. within_fields s name (fields_of given)) (λ fs. fields_misfits look fs (fields_of given)))) known
         ∙ (ap (λ r. r ++ flat_map (missing place (all_fields (fields_of given))) fields) (fields_misfits_is fields given)
         ∙ ap (λ gs. flat_map (field_misfits look fields) given ++ flat_map (missing place gs) fields) (all_fields_of given))
 

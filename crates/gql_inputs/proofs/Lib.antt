@@ -10,3 +10,4 @@ pub mod Wholes
 pub mod Agreement
 pub mod RequiredFields
 pub mod CleanLists
+pub mod Customs

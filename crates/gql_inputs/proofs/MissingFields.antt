@@ -1,6 +1,6 @@
 -- Fields that are missing, by what is known of the names that are given, and one field after the
 -- other.
-use Rattle.std.proofs.Common.{◌≡◌, ◌+◌, ◌++◌, ℕ, List, [], Bool, true, false, Some, filter, take, flat_map, slice_get, refl, sym, arith}
+use Rattle.std.proofs.Common.{◌≡◌, ◌+◌, ◌++◌, ℕ, List, [], Bool, false, Some, filter, take, flat_map, slice_get, refl, sym, arith}
 use Rattle.std.proofs.lemmas.Grind.{common_steps}
 use Rattle.std.proofs.lemmas.Option.{slice_get_within, get_or_from_slice_get}
 use Rattle.gql_text.specs.declared.place.Place.{Place}

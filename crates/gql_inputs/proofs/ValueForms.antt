@@ -18,7 +18,7 @@ module _ (place : Place) where
   unfolding value_of
   value_int text = ap value_of (sym (l.rolls-Int place text)) ∙ fold-roll-Literal Value GivenField value_at field_at (Literal-F.Int place text)
 
-  pub value_float : (text : List ℕ) → value_of (l.Float place text) ≡ float place
+  pub value_float : (text : List ℕ) → value_of (l.Float place text) ≡ float place text
   unfolding value_of
   value_float text = ap value_of (sym (l.rolls-Float place text)) ∙ fold-roll-Literal Value GivenField value_at field_at (Literal-F.Float place text)
 

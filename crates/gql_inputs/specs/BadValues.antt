@@ -2,7 +2,7 @@
 -- input object field names (V19), their uniqueness (V20), and required fields (V21). Types come
 -- from a look-up, so that the same definitions serve a schema and anything else that knows input
 -- types.
-use Rattle.std.specs.Prelude.{ℕ, List, [], ◌∷◌, ◌++◌, ◌&&◌, ◌||◌, Bool, true, false, not, map, flat_map, bytes_eq, Option, Some, None, nat_eq, length, if◌then◌else◌}
+use Rattle.std.specs.Prelude.{ℕ, List, [], ◌∷◌, ◌++◌, ◌&&◌, ◌||◌, Bool, true, false, not, map, flat_map, bytes_eq, is_some, Option, Some, None, nat_eq, length, if◌then◌else◌}
 use Rattle.std.specs.List.{list_any}
 use Rattle.gql_text.specs.declared.place.Place.{Place}
 use Rattle.gql_ast.specs.declared.literal.Literal.{Literal}
@@ -16,7 +16,7 @@ use Rattle.gql_types.specs.Written.{Written}
 use Rattle.gql_types.specs.declared.schema.Schema.{Schema}
 use Rattle.gql_inputs.specs.InputTypes.{name_in, item_of, is_custom, is_list, is_non_null, one_of, text_of}
 use Rattle.gql_inputs.specs.Lookups.{InputForm, scalar, enumeration, input_object, FieldForm, InputLookup, field_named, is_required, in_schema}
-use Rattle.gql_inputs.specs.Numbers.{is_whole}
+use Rattle.gql_inputs.specs.Numbers.{is_number, is_whole, real_of}
 use Rattle.gql_inputs.specs.Values.{Value, variable, null, int, float, string, boolean, enum, list, object, Values, no_values, value, Fields, no_fields, field, GivenField, all_fields, value_of, place_of, is_null, may_be_list}
 use Rattle.gql_inputs.specs.declared.bad_value.BadValue.{BadValue}
 use Rattle.gql_inputs.specs.declared.scalar.Scalar.{Scalar}
@@ -28,27 +28,45 @@ bad r place about = record { rule = r; place = place; about = about } ∷ []
 
 -- ---- which values without parts an input type takes (3.5, 3.9)
 
--- Int takes integers of 32 bits, ID and custom scalars those of 64
+-- Int takes integers of 32 bits, ID and custom scalars those of 64. Float and open scalars take
+-- these, and others whose nearest double is finite.
 abbrev pub scalar_takes_int : List ℕ → Scalar → Bool
 scalar_takes_int text scalars.Int = is_whole 31 text
 scalar_takes_int text scalars.Id = is_whole 63 text
 scalar_takes_int text scalars.Custom = is_whole 63 text
+scalar_takes_int text scalars.Float = is_number text
+scalar_takes_int text scalars.Open = is_number text
 scalar_takes_int text scalars.String = false
 scalar_takes_int text scalars.Boolean = false
 
--- String, ID and custom scalars take strings
+-- Float and open scalars take a number with a fraction or an exponent, if its nearest double is
+-- finite
+abbrev pub scalar_takes_float : List ℕ → Scalar → Bool
+scalar_takes_float text scalars.Float = is_some (real_of text)
+scalar_takes_float text scalars.Open = is_some (real_of text)
+scalar_takes_float text scalars.Int = false
+scalar_takes_float text scalars.Id = false
+scalar_takes_float text scalars.Custom = false
+scalar_takes_float text scalars.String = false
+scalar_takes_float text scalars.Boolean = false
+
+-- String, ID and scalars of schema files take strings
 abbrev pub scalar_takes_string : Scalar → Bool
 scalar_takes_string scalars.String = true
 scalar_takes_string scalars.Id = true
 scalar_takes_string scalars.Custom = true
+scalar_takes_string scalars.Open = true
 scalar_takes_string scalars.Int = false
+scalar_takes_string scalars.Float = false
 scalar_takes_string scalars.Boolean = false
 
--- Boolean and custom scalars take true and false
+-- Boolean and scalars of schema files take true and false
 abbrev pub scalar_takes_boolean : Scalar → Bool
 scalar_takes_boolean scalars.Boolean = true
 scalar_takes_boolean scalars.Custom = true
+scalar_takes_boolean scalars.Open = true
 scalar_takes_boolean scalars.Int = false
+scalar_takes_boolean scalars.Float = false
 scalar_takes_boolean scalars.String = false
 scalar_takes_boolean scalars.Id = false
 
@@ -64,11 +82,10 @@ takes_name name (scalar s) = is_custom s
 takes_name name (enumeration values) = list_any (bytes_eq name) values
 takes_name name (input_object fields) = false
 
--- Whether an input type takes a value without parts. No type takes a number with a fraction or an
--- exponent, since Float is not built in (this registry's own rule).
+-- whether an input type takes a value without parts
 abbrev pub takes : Value → InputForm → Bool
 takes (int p text) i = takes_as_scalar (scalar_takes_int text) i
-takes (float p) i = false
+takes (float p text) i = takes_as_scalar (scalar_takes_float text) i
 takes (string p) i = takes_as_scalar scalar_takes_string i
 takes (boolean p) i = takes_as_scalar scalar_takes_boolean i
 takes (enum p name) i = takes_name name i
@@ -110,45 +127,56 @@ single_misfits look t x = where_known look t (single_at t x)
 abbrev pub null_misfits : InputLookup → Place → Written → List BadValue
 null_misfits look p t = if is_non_null t then never_fits look p t else []
 
--- ---- V18 within a custom scalar, by its name: it takes integers of 64 bits and no other numbers
--- (this registry's own rule)
+-- ---- V18 within a scalar of a schema file: it takes the same numbers wherever they are (this
+-- registry's own rule)
 
--- V18 within a value that a custom scalar takes, about this name
+-- V18 within a value that this scalar takes, about this name
 abbrev mutual
   -- in a value
-  pub within : List ℕ → Value → List BadValue
-  within name (variable p n) = []
-  within name (null p) = []
-  within name (int p text) = if is_whole 63 text then [] else bad rule.V18 p name
-  within name (float p) = bad rule.V18 p name
-  within name (string p) = []
-  within name (boolean p) = []
-  within name (enum p n) = []
-  within name (list p xs) = within_values name xs
-  within name (object p fs) = within_fields name fs
+  pub within : Scalar → List ℕ → Value → List BadValue
+  within s name (variable p n) = []
+  within s name (null p) = []
+  within s name (int p text) = if scalar_takes_int text s then [] else bad rule.V18 p name
+  within s name (float p text) = if scalar_takes_float text s then [] else bad rule.V18 p name
+  within s name (string p) = []
+  within s name (boolean p) = []
+  within s name (enum p n) = []
+  within s name (list p xs) = within_values s name xs
+  within s name (object p fs) = within_fields s name fs
 
   -- in the items of a list
-  pub within_values : List ℕ → Values → List BadValue
-  within_values name no_values = []
-  within_values name (value x xs) = within name x ++ within_values name xs
+  pub within_values : Scalar → List ℕ → Values → List BadValue
+  within_values s name no_values = []
+  within_values s name (value x xs) = within s name x ++ within_values s name xs
 
   -- in the fields of an object
-  pub within_fields : List ℕ → Fields → List BadValue
-  within_fields name no_fields = []
-  within_fields name (field n x fs) = within name x ++ within_fields name fs
+  pub within_fields : Scalar → List ℕ → Fields → List BadValue
+  within_fields s name no_fields = []
+  within_fields s name (field n x fs) = within s name x ++ within_fields s name fs
 
 -- a list or an object where another value is expected, about the type of that value
 abbrev pub at_one : Place → Written → List BadValue
 at_one p t = bad rule.V18 p (text_of (one_of t))
 
+-- what is found within a value, by the scalar of a schema file that takes it and by its name
+abbrev pub Inside : Type 0
+Inside = Scalar → List ℕ → List BadValue
+
+-- V18 of a list or an object where a scalar is expected: one of a schema file takes it, if it takes
+-- what is in it
+abbrev pub at_scalar : Place → Written → Inside → Scalar → List BadValue
+at_scalar p t inside s = if is_custom s then inside s (name_in t) else at_one p t
+
 -- ---- lists (3.11)
 
--- V18 of a list where none is expected: a custom scalar takes it, if it takes what is in it
-abbrev pub list_at_one : Place → Written → (List ℕ → List BadValue) → InputForm → List BadValue
-list_at_one p t inside i = if is_custom_form i then inside (name_in t) else at_one p t
+-- V18 of a list where none is expected
+abbrev pub list_at_one : Place → Written → Inside → InputForm → List BadValue
+list_at_one p t inside (scalar s) = at_scalar p t inside s
+list_at_one p t inside (enumeration values) = at_one p t
+list_at_one p t inside (input_object fields) = at_one p t
 
 -- V18 of a list, by the item type of its type, if that is a list type
-abbrev pub list_by : InputLookup → Place → Written → (List ℕ → List BadValue)
+abbrev pub list_by : InputLookup → Place → Written → Inside
     → (Written → List BadValue) → Option Written → List BadValue
 list_by look p t inside items None = where_known look t (list_at_one p t inside)
 list_by look p t inside items (Some item) = items item
@@ -187,14 +215,10 @@ missing_if is_missing p f = if is_required f && is_missing then bad rule.V21 p f
 abbrev pub missing : Place → List GivenField → FieldForm → List BadValue
 missing p given f = missing_if (lacks (is_given given f.name) (is_null_given given f.name)) p f
 
--- V18 of an object where a scalar is expected: a custom one takes it, if it takes what is in it
-abbrev pub object_at_scalar : Place → Written → (List ℕ → List BadValue) → Scalar → List BadValue
-object_at_scalar p t inside s = if is_custom s then inside (name_in t) else at_one p t
-
 -- what of an object does not fit, by its input type
-abbrev pub object_by : Place → Written → List GivenField → (List ℕ → List BadValue)
+abbrev pub object_by : Place → Written → List GivenField → Inside
     → (List FieldForm → List BadValue) → InputForm → List BadValue
-object_by p t given inside misfits (scalar s) = object_at_scalar p t inside s
+object_by p t given inside misfits (scalar s) = at_scalar p t inside s
 object_by p t given inside misfits (enumeration values) = at_one p t
 object_by p t given inside misfits (input_object fields) =
     misfits fields ++ flat_map (missing p given) fields
@@ -208,14 +232,14 @@ abbrev mutual
   misfits look t (variable p name) = []
   misfits look t (null p) = null_misfits look p t
   misfits look t (int p text) = single_misfits look t (int p text)
-  misfits look t (float p) = single_misfits look t (float p)
+  misfits look t (float p text) = single_misfits look t (float p text)
   misfits look t (string p) = single_misfits look t (string p)
   misfits look t (boolean p) = single_misfits look t (boolean p)
   misfits look t (enum p name) = single_misfits look t (enum p name)
-  misfits look t (list p xs) = list_by look p t (λ name. within_values name xs)
+  misfits look t (list p xs) = list_by look p t (λ s name. within_values s name xs)
       (λ item. items_misfits look item xs) (item_of t)
   misfits look t (object p fs) = where_known look t
-      (object_by p t (all_fields fs) (λ name. within_fields name fs)
+      (object_by p t (all_fields fs) (λ s name. within_fields s name fs)
       (λ fields. fields_misfits look fields fs))
 
   -- of the items of a list, by their type
@@ -233,13 +257,13 @@ abbrev mutual
 
 -- what of a list does not fit
 abbrev pub list_misfits : InputLookup → Place → Written → Values → List BadValue
-list_misfits look p t xs = list_by look p t (λ name. within_values name xs)
+list_misfits look p t xs = list_by look p t (λ s name. within_values s name xs)
     (λ item. items_misfits look item xs) (item_of t)
 
 -- what of an object does not fit
 abbrev pub object_misfits : InputLookup → Place → Written → Fields → List BadValue
 object_misfits look p t fs = where_known look t
-    (object_by p t (all_fields fs) (λ name. within_fields name fs)
+    (object_by p t (all_fields fs) (λ s name. within_fields s name fs)
     (λ fields. fields_misfits look fields fs))
 
 -- what of one item of a list does not fit
@@ -269,7 +293,7 @@ abbrev mutual
   repeats (variable p name) = []
   repeats (null p) = []
   repeats (int p text) = []
-  repeats (float p) = []
+  repeats (float p text) = []
   repeats (string p) = []
   repeats (boolean p) = []
   repeats (enum p name) = []

@@ -1,5 +1,5 @@
 -- What a type asks of an input (GraphQL specification, 3.5, 3.9 to 3.12).
-use Rattle.std.specs.Prelude.{ℕ, List, ◌++◌, Bool, true, false, codes, bytes_eq, Option, Some, None, option_and_then, if◌then◌else◌}
+use Rattle.std.specs.Prelude.{ℕ, List, ◌++◌, Bool, true, false, codes, bytes_eq, is_some, Option, Some, None, option_and_then, if◌then◌else◌}
 use Rattle.gql_types.specs.Schemas.{type_named}
 use Rattle.gql_types.specs.Written.{Written, named, listed, required}
 use Rattle.gql_types.specs.declared.kind.TypeKind.{TypeKind}
@@ -11,13 +11,27 @@ use Rattle.gql_inputs.specs.declared.scalar.Scalar.TheVariants as scalar
 pub use Rattle.gql_types.specs.RequiredInputs.{is_non_null}
 pub use Rattle.gql_types.specs.Kinds.{is_input}
 
--- the scalar of a name: one that is built in, or a custom one
-abbrev pub scalar_named : List ℕ → Scalar
-scalar_named name = if bytes_eq name (codes "Int") then scalar.Int
+-- the scalar of a schema file: an open one takes every number (this registry's own rule)
+abbrev pub custom_scalar : Bool → Scalar
+custom_scalar floats = if floats then scalar.Open else scalar.Custom
+
+-- The scalar of a name: one that is built in, or one of a schema file. `floats` says whether Float is
+-- a type: then the scalars of schema files are open.
+abbrev pub scalar_named : Bool → List ℕ → Scalar
+scalar_named floats name = if bytes_eq name (codes "Int") then scalar.Int
     else if bytes_eq name (codes "String") then scalar.String
     else if bytes_eq name (codes "Boolean") then scalar.Boolean
     else if bytes_eq name (codes "ID") then scalar.Id
-    else scalar.Custom
+    else if bytes_eq name (codes "Float") then scalar.Float
+    else custom_scalar floats
+
+-- whether Float is a type of a schema
+abbrev pub is_open : Schema → Bool
+is_open s = is_some (type_named s (codes "Float"))
+
+-- the scalar of a name in a schema
+abbrev pub scalar_in : Schema → List ℕ → Scalar
+scalar_in s name = scalar_named (is_open s) name
 
 -- the name within lists and Non-Nulls
 abbrev pub name_in : Written → List ℕ
@@ -70,14 +84,16 @@ name_of t = t.definition.node.name.text
 -- a scalar of a schema file, not one that is built in
 abbrev pub is_custom : Scalar → Bool
 is_custom scalar.Custom = true
+is_custom scalar.Open = true
 is_custom scalar.Int = false
 is_custom scalar.String = false
 is_custom scalar.Boolean = false
 is_custom scalar.Id = false
+is_custom scalar.Float = false
 
--- a type with this name and of this kind is a scalar of a schema file
+-- a type with this name and of this kind is a scalar of a schema file, whether it is open or not
 abbrev pub is_custom_at : List ℕ → TypeKind → Bool
-is_custom_at name kind.Scalar = is_custom (scalar_named name)
+is_custom_at name kind.Scalar = is_custom (scalar_named false name)
 is_custom_at name kind.Enum = false
 is_custom_at name kind.InputObject = false
 is_custom_at name kind.Object = false

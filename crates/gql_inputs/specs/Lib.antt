@@ -6,3 +6,4 @@ pub mod BadValues
 pub mod ExpectedTypes
 pub mod Agreement
 pub mod NothingFound
+pub mod Examples

@@ -11,7 +11,7 @@ use Rattle.gql_types.specs.declared.kind.TypeKind.TheVariants as kind
 use Rattle.gql_types.specs.declared.schema.Schema.{Schema}
 use Rattle.gql_types.specs.declared.schema_type.SchemaType.{SchemaType}
 use Rattle.gql_inputs.specs.ExpectedTypes.{written_of}
-use Rattle.gql_inputs.specs.InputTypes.{is_non_null, name_of, scalar_named}
+use Rattle.gql_inputs.specs.InputTypes.{is_non_null, is_open, name_of, scalar_named}
 use Rattle.gql_inputs.specs.declared.input_types.InputField.{InputField}
 use Rattle.gql_inputs.specs.declared.input_types.InputKind.{InputKind}
 use Rattle.gql_inputs.specs.declared.input_types.InputKind.TheVariants as input_kind
@@ -93,19 +93,20 @@ schema_form (borrowed.Scalar s) = scalar s
 schema_form (borrowed.Enum values) = enumeration (value_names values.now)
 schema_form (borrowed.InputObject fields) = input_object (map field_of fields.now)
 
--- a type as an input type, by its kind; an object, an interface or a union is none
-abbrev pub form_at : SchemaType → TypeKind → Option InputForm
-form_at t kind.Scalar = Some (scalar (scalar_named (name_of t)))
-form_at t kind.Enum = Some (enumeration (value_names t.values))
-form_at t kind.InputObject = Some (input_object (map field_of t.input_fields))
-form_at t kind.Object = None
-form_at t kind.Interface = None
-form_at t kind.Union = None
+-- A type as an input type, by its kind; an object, an interface or a union is none. `floats` says
+-- whether scalars of schema files are open.
+abbrev pub form_at : Bool → SchemaType → TypeKind → Option InputForm
+form_at floats t kind.Scalar = Some (scalar (scalar_named floats (name_of t)))
+form_at floats t kind.Enum = Some (enumeration (value_names t.values))
+form_at floats t kind.InputObject = Some (input_object (map field_of t.input_fields))
+form_at floats t kind.Object = None
+form_at floats t kind.Interface = None
+form_at floats t kind.Union = None
 
 -- a type as an input type
-abbrev pub form_of : SchemaType → Option InputForm
-form_of t = form_at t t.kind
+abbrev pub form_of : Bool → SchemaType → Option InputForm
+form_of floats t = form_at floats t t.kind
 
 -- what each name is as an input type of a schema
 abbrev pub in_schema : Schema → InputLookup
-in_schema s name = option_and_then form_of (type_named s name)
+in_schema s name = option_and_then (form_of (is_open s)) (type_named s name)

@@ -12,9 +12,9 @@ mutual
     -- a variable, by its name
     variable : Place → List ℕ → Value
     null : Place → Value
-    -- an integer, as it is written
+    -- an integer, and another number, as they are written
     int : Place → List ℕ → Value
-    float : Place → Value
+    float : Place → List ℕ → Value
     string : Place → Value
     boolean : Place → Value
     -- a name other than true, false and null
@@ -55,7 +55,7 @@ abbrev pub value_at : Literal-F Value GivenField → Value
 value_at (Literal-F.Variable place name) = variable place name
 value_at (Literal-F.Null place) = null place
 value_at (Literal-F.Int place text) = int place text
-value_at (Literal-F.Float place text) = float place
+value_at (Literal-F.Float place text) = float place text
 value_at (Literal-F.String place text) = string place
 value_at (Literal-F.Boolean place truth) = boolean place
 value_at (Literal-F.Enum place name) = enum place name
@@ -79,7 +79,7 @@ abbrev pub place_of : Value → Place
 place_of (variable p name) = p
 place_of (null p) = p
 place_of (int p text) = p
-place_of (float p) = p
+place_of (float p text) = p
 place_of (string p) = p
 place_of (boolean p) = p
 place_of (enum p name) = p

@@ -15,7 +15,7 @@ use crate::forms::{is_null, may_be_list, place_of};
 use crate::input_types::{InputField, InputKind, InputType, InputTypes};
 use crate::missing::{add_missing, is_required};
 use crate::scalar::{Scalar, is_custom};
-use crate::singles::{add_single, is_custom_type};
+use crate::singles::add_single;
 use crate::within::{add_within_all, add_within_fields};
 use gql_ast::{Literal, ObjectField, Rule};
 use gql_text::Place;
@@ -87,16 +87,38 @@ pub fn add_list_at_one<A: InputTypes>(
     ensures found { OnOk result (found.new.items ≡ found.old.items
         ++ spec.where_known (A.look types.old) (written_of of_type.entry)
         (spec.list_at_one place (written_of of_type.entry)
-        (λ name. spec.within_values name (values_of (map value_of items.now))))) }
+        (λ s name. spec.within_values s name (values_of (map value_of items.now))))) }
 {
-    if let Some(found_type) = types.input_type(alloc, of_type.name())? {
-        if is_custom_type(&found_type) {
-            add_within_all(alloc, items, of_type.name().as_str(), found)?;
-        } else {
-            add_at_one(alloc, place, of_type, found)?;
-        }
+    match types.input_type(alloc, of_type.name())? {
+        None => Ok(()),
+        Some(found_type) => match found_type.kind() {
+            InputKind::Scalar(scalar) => {
+                add_list_to_scalar(alloc, items, place, scalar, of_type, found)
+            }
+            InputKind::Enum | InputKind::InputObject => { add_at_one(alloc, place, of_type, found) }
+        },
     }
-    Ok(())
+}
+
+/// Adds what of a list does not fit a scalar.
+#[tactic(auto, using(crate::proofs::Inside::within_values_is))]
+fn add_list_to_scalar(
+    alloc: Global,
+    items: &[Literal],
+    place: Place,
+    scalar: Scalar,
+    of_type: ExpectedType<'_>,
+    found: &mut Vec<BadValue>,
+) -> Result<(), AllocError>
+    ensures { OnOk result (found.new.items ≡ found.old.items
+        ++ spec.at_scalar place (written_of of_type.entry)
+        (λ s name. spec.within_values s name (values_of (map value_of items.now))) scalar) }
+{
+    if is_custom(scalar) {
+        add_within_all(alloc, items, scalar, of_type.name().as_str(), found)
+    } else {
+        add_at_one(alloc, place, of_type, found)
+    }
 }
 
 /// Adds what of a value does not fit the type, except for fields that occur more than once.
@@ -239,11 +261,11 @@ pub fn add_to_scalar(
     found: &mut Vec<BadValue>,
 ) -> Result<(), AllocError>
     ensures { OnOk result (found.new.items ≡ found.old.items
-        ++ spec.object_at_scalar place (written_of of_type.entry)
-        (λ name. spec.within_fields name (fields_of (map given_field fields.now))) scalar) }
+        ++ spec.at_scalar place (written_of of_type.entry)
+        (λ s name. spec.within_fields s name (fields_of (map given_field fields.now))) scalar) }
 {
     if is_custom(scalar) {
-        add_within_fields(alloc, fields, of_type.name().as_str(), found)
+        add_within_fields(alloc, fields, scalar, of_type.name().as_str(), found)
     } else {
         add_at_one(alloc, place, of_type, found)
     }

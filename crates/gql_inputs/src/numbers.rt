@@ -1,5 +1,5 @@
-//! Whole numbers in range (GraphQL specification, 3.5.1).
-ghost use Rattle.std.specs.Prelude.{◌≡◌};
+//! Numbers in range (GraphQL specification, 3.5.1 and 3.5.2).
+ghost use Rattle.std.specs.Prelude.{◌≡◌, is_some};
 ghost use Rattle.gql_inputs.specs.Numbers as spec;
 
 /// Whether a whole number, as it is written, has at most 32 bits.
@@ -21,4 +21,28 @@ pub fn whole_number(text: &str) -> Option<i64>
     ensures { result ≡ spec.whole_number text.now }
 {
     text.parse::<i64>().ok()
+}
+
+/// The double nearest to the number that is written, if that is finite.
+pub fn real_of(text: &str) -> Option<f64>
+    ensures { result ≡ spec.real_of text.now }
+{
+    match text.parse::<f64>() {
+        Ok(x) => if x.is_finite() { Some(x) } else { None },
+        Err(_) => None,
+    }
+}
+
+/// Whether a number has a finite nearest double.
+pub fn is_real(text: &str) -> bool
+    ensures { result ≡ is_some (spec.real_of text.now) }
+{
+    real_of(text).is_some()
+}
+
+/// Whether a number is a whole number of at most 64 bits, or has a finite nearest double.
+pub fn is_number(text: &str) -> bool
+    ensures { result ≡ spec.is_number text.now }
+{
+    is_long(text) || is_real(text)
 }

@@ -5,11 +5,12 @@ ghost use Rattle.std.specs.Option.{option_copied};
 ghost use Rattle.gql_ast.specs.declared.type_system.EnumValueDefinition.{EnumValueDefinition as EnumValue};
 ghost use Rattle.gql_ast.specs.declared.type_system.InputValueDefinition.{InputValueDefinition as InputValue};
 ghost use Rattle.gql_built_in.specs.declared.sited.Sited.{Sited as ASited};
+ghost use Rattle.gql_inputs.specs.InputTypes.{is_open};
 ghost use Rattle.gql_inputs.specs.Lookups as spec;
 
 use crate::expected_type::ExpectedType;
 use crate::input_types::{InputField, InputKind, InputType, InputTypes};
-use crate::scalar::{Scalar, scalar_named};
+use crate::scalar::{Scalar, scalar_in};
 use gql_ast::{EnumValueDefinition, InputValueDefinition, Shared, Text};
 use gql_types::{DefinedInputs, HasName, Named, Schema, SchemaType, Sited, TypeKind};
 use std::alloc::{AllocError, Global};
@@ -116,11 +117,11 @@ pub struct OfSchema<'s> {
 }
 
 /// A type of a schema as an input type.
-fn as_input(of_type: &SchemaType) -> Option<SchemaInputType<'_>>
-    ensures { option_map spec.schema_form result ≡ spec.form_of of_type.now }
+fn as_input<'s>(schema: &Schema, of_type: &'s SchemaType) -> Option<SchemaInputType<'s>>
+    ensures { option_map spec.schema_form result ≡ spec.form_of (is_open schema.now) of_type.now }
 {
     match of_type.kind {
-        TypeKind::Scalar => Some(SchemaInputType::Scalar(scalar_named(of_type.name()))),
+        TypeKind::Scalar => Some(SchemaInputType::Scalar(scalar_in(schema, of_type.name()))),
         TypeKind::Enum => Some(SchemaInputType::Enum(&of_type.values)),
         TypeKind::InputObject => Some(SchemaInputType::InputObject(&of_type.input_fields)),
         TypeKind::Object | TypeKind::Interface | TypeKind::Union => None,
@@ -140,7 +141,7 @@ impl<'s> InputTypes for OfSchema<'s> {
         name: &Text,
     ) -> Result<Option<SchemaInputType<'s>>, AllocError> {
         match self.schema.get(name.as_str()) {
-            Some(of_type) => Ok(as_input(of_type)),
+            Some(of_type) => Ok(as_input(self.schema, of_type)),
             None => Ok(None),
         }
     }

@@ -3,7 +3,7 @@
 ghost use Rattle.std.specs.Prelude.{◌≡◌};
 ghost use Rattle.gql_inputs.specs.InputTypes as spec;
 
-use gql_types::is_same_name;
+use gql_types::{Schema, is_same_name};
 
 /// The scalars by what they take (GraphQL specification, 3.5).
 #[derive(Clone, Copy)]
@@ -12,13 +12,24 @@ pub enum Scalar {
     String,
     Boolean,
     Id,
-    /// A scalar of a schema file.
+    Float,
+    /// A scalar of a schema file where Float is not a type. Of numbers it takes integers of 64 bits.
     Custom,
+    /// A scalar of a schema file where Float is a type. It takes each number that has a finite
+    /// nearest double.
+    Open,
 }
 
-/// The scalar of a name.
-pub fn scalar_named(name: &str) -> Scalar
-    ensures { result ≡ spec.scalar_named name.now }
+/// The scalar of a schema file, where Float is a type or is not.
+pub fn custom_scalar(floats: bool) -> Scalar
+    ensures { result ≡ spec.custom_scalar floats }
+{
+    if floats { Scalar::Open } else { Scalar::Custom }
+}
+
+/// The scalar of a name, where Float is a type or is not.
+pub fn scalar_named(floats: bool, name: &str) -> Scalar
+    ensures { result ≡ spec.scalar_named floats name.now }
 {
     if is_same_name(name, "Int") {
         Scalar::Int
@@ -28,8 +39,30 @@ pub fn scalar_named(name: &str) -> Scalar
         Scalar::Boolean
     } else if is_same_name(name, "ID") {
         Scalar::Id
+    } else if is_same_name(name, "Float") {
+        Scalar::Float
     } else {
-        Scalar::Custom
+        custom_scalar(floats)
+    }
+}
+
+/// Whether Float is a type of a schema.
+pub fn is_open(schema: &Schema) -> bool
+    ensures { result ≡ spec.is_open schema.now }
+{
+    schema.get("Float").is_some()
+}
+
+/// The scalar of a name in a schema.
+#[tactic(auto, using(crate::proofs::Customs::named_by_others))]
+pub fn scalar_in(schema: &Schema, name: &str) -> Scalar
+    ensures { result ≡ spec.scalar_in schema.now name.now }
+{
+    let scalar = scalar_named(false, name);
+    if is_custom(scalar) {
+        custom_scalar(is_open(schema))
+    } else {
+        scalar
     }
 }
 
@@ -38,7 +71,7 @@ pub fn is_custom(scalar: Scalar) -> bool
     ensures { result ≡ spec.is_custom scalar }
 {
     match scalar {
-        Scalar::Custom => true,
-        Scalar::Int | Scalar::String | Scalar::Boolean | Scalar::Id => false,
+        Scalar::Custom | Scalar::Open => true,
+        Scalar::Int | Scalar::String | Scalar::Boolean | Scalar::Id | Scalar::Float => false,
     }
 }

@@ -9,19 +9,31 @@ use crate::bad_value::{BadValue, add_bad};
 use crate::expected_type::ExpectedType;
 use crate::forms::place_of;
 use crate::input_types::{InputKind, InputType, InputTypes};
-use crate::numbers::{is_int, is_long};
+use crate::numbers::{is_int, is_long, is_number, is_real};
 use crate::scalar::{Scalar, is_custom};
 use gql_ast::{Literal, Rule, Text};
 use gql_text::Place;
 use std::alloc::{AllocError, Global};
 
-fn scalar_takes_int(scalar: Scalar, text: &str) -> bool
+/// Whether a scalar takes an integer.
+pub fn scalar_takes_int(scalar: Scalar, text: &str) -> bool
     ensures { result ≡ spec.scalar_takes_int text.now scalar }
 {
     match scalar {
         Scalar::Int => is_int(text),
         Scalar::Id | Scalar::Custom => is_long(text),
+        Scalar::Float | Scalar::Open => is_number(text),
         Scalar::String | Scalar::Boolean => false,
+    }
+}
+
+/// Whether a scalar takes a number with a fraction or an exponent.
+pub fn scalar_takes_float(scalar: Scalar, text: &str) -> bool
+    ensures { result ≡ spec.scalar_takes_float text.now scalar }
+{
+    match scalar {
+        Scalar::Float | Scalar::Open => is_real(text),
+        Scalar::Int | Scalar::Id | Scalar::Custom | Scalar::String | Scalar::Boolean => false,
     }
 }
 
@@ -29,8 +41,8 @@ fn scalar_takes_string(scalar: Scalar) -> bool
     ensures { result ≡ spec.scalar_takes_string scalar }
 {
     match scalar {
-        Scalar::String | Scalar::Id | Scalar::Custom => true,
-        Scalar::Int | Scalar::Boolean => false,
+        Scalar::String | Scalar::Id | Scalar::Custom | Scalar::Open => true,
+        Scalar::Int | Scalar::Float | Scalar::Boolean => false,
     }
 }
 
@@ -38,8 +50,8 @@ fn scalar_takes_boolean(scalar: Scalar) -> bool
     ensures { result ≡ spec.scalar_takes_boolean scalar }
 {
     match scalar {
-        Scalar::Boolean | Scalar::Custom => true,
-        Scalar::Int | Scalar::String | Scalar::Id => false,
+        Scalar::Boolean | Scalar::Custom | Scalar::Open => true,
+        Scalar::Int | Scalar::Float | Scalar::String | Scalar::Id => false,
     }
 }
 
@@ -48,6 +60,16 @@ fn takes_int<T: InputType>(of_type: &T, text: &str) -> bool
 {
     match of_type.kind() {
         InputKind::Scalar(scalar) => scalar_takes_int(scalar, text),
+        InputKind::Enum | InputKind::InputObject => false,
+    }
+}
+
+fn takes_float<T: InputType>(of_type: &T, text: &str) -> bool
+    ensures { result ≡ spec.takes_as_scalar (spec.scalar_takes_float text.now)
+        (T.form of_type.now) }
+{
+    match of_type.kind() {
+        InputKind::Scalar(scalar) => scalar_takes_float(scalar, text),
         InputKind::Enum | InputKind::InputObject => false,
     }
 }
@@ -97,7 +119,7 @@ fn takes<T: InputType>(of_type: &T, value: &Literal) -> bool
 {
     match value {
         Literal::Int { text, .. } => takes_int(of_type, text.as_str()),
-        Literal::Float { .. } => false,
+        Literal::Float { text, .. } => takes_float(of_type, text.as_str()),
         Literal::String { .. } => takes_string(of_type),
         Literal::Boolean { .. } => takes_boolean(of_type),
         Literal::Enum { name, .. } => takes_name(of_type, name.as_str()),

@@ -100,7 +100,7 @@ pub fn is_custom_scalar(of_type: &SchemaType) -> bool
 {
     match of_type.kind {
         TypeKind::Scalar => {
-            let scalar = scalar_named(of_type.name());
+            let scalar = scalar_named(false, of_type.name());
             is_custom(scalar)
         }
         TypeKind::Enum

@@ -3,6 +3,7 @@ use Rattle.std.specs.Prelude.{◌≡◌, ◌&&◌, ◌++◌, ℕ, List, [], ◌�
 use Rattle.std.specs.List.{list_any, starts_with}
 use Rattle.std.proofs.Common.{ap, sym, subst, ◌∙◌, true≢false}
 use Rattle.std.proofs.lemmas.Slice.Eq.{bytes_eq-Decides}
+use Rattle.gql_ast.specs.declared.definition.Tree.{Tree}
 use Rattle.gql_ast.specs.declared.files.Files.{Files}
 use Rattle.gql_ast.specs.declared.type_system.EnumValueDefinition.{EnumValueDefinition}
 use Rattle.gql_ast.specs.declared.type_system.FieldDefinition.{FieldDefinition}
@@ -11,10 +12,11 @@ use Rattle.gql_ast.specs.declared.type_system.TypeExtension.{TypeExtension}
 use Rattle.gql_built_in.specs.BuiltIn.{built_in, scalars, introspection, fields_of_schema, fields_of_type, fields_of_field, fields_of_input_value, fields_of_enum_value, fields_of_directive, type_kinds, directive_locations}
 use Rattle.gql_built_in.specs.BuiltInWords.{object_type, type_of, of_no_file, word}
 use Rattle.gql_built_in.specs.declared.sited.Sited.{Sited}
-use Rattle.gql_types.specs.Definitions.{definitions, type_extensions}
+use Rattle.gql_types.specs.Definitions.{definitions, of_files, type_extensions}
 use Rattle.gql_types.specs.Kinds.{same_kind}
 use Rattle.gql_types.specs.Parts.{kind_of, sited}
-use Rattle.gql_types.specs.Schemas.{field_named, schema_of, type_named, values_by}
+use Rattle.gql_types.specs.Possible.{name_of}
+use Rattle.gql_types.specs.Schemas.{field_named, schema_of, type_named, types_in, values_by}
 use Rattle.gql_types.specs.Types.{assembled, extends, extensions_of}
 use Rattle.gql_types.specs.declared.schema_type.SchemaType.{SchemaType}
 use Rattle.gql_intro.specs.AnswerTypes.{HasValue}
@@ -31,6 +33,53 @@ unsited d = record { file = None; node = d }
 -- the type of a definition that no file extends
 abbrev pub alone : TypeDefinition → SchemaType
 alone d = assembled (unsited d) []
+
+-- ---- the types among the built-in ones, with Float or without it
+
+-- the type of a built-in definition is the first of its name, whatever files define
+abbrev IsFirst : Bool → TypeDefinition → List ℕ → Type 0
+IsFirst floats d name = (rest : List (Sited Tree)) → find (λ (t : SchemaType). bytes_eq name (name_of t)) (types_in (built_in floats ++ rest))
+    ≡ Some (assembled (unsited d) (extensions_of (type_extensions (built_in floats ++ rest)) (unsited d)))
+
+schema_first : (floats : Bool) → IsFirst floats (object_type (codes "__Schema") fields_of_schema) (codes "__Schema")
+unfolding built_in scalars introspection type_kinds directive_locations type_of of_no_file word
+schema_first true rest = refl
+schema_first false rest = refl
+
+type_first : (floats : Bool) → IsFirst floats (object_type (codes "__Type") fields_of_type) (codes "__Type")
+unfolding built_in scalars introspection type_kinds directive_locations type_of of_no_file word
+type_first true rest = refl
+type_first false rest = refl
+
+field_first : (floats : Bool) → IsFirst floats (object_type (codes "__Field") fields_of_field) (codes "__Field")
+unfolding built_in scalars introspection type_kinds directive_locations type_of of_no_file word
+field_first true rest = refl
+field_first false rest = refl
+
+input_value_first : (floats : Bool) → IsFirst floats (object_type (codes "__InputValue") fields_of_input_value) (codes "__InputValue")
+unfolding built_in scalars introspection type_kinds directive_locations type_of of_no_file word
+input_value_first true rest = refl
+input_value_first false rest = refl
+
+enum_value_first : (floats : Bool) → IsFirst floats (object_type (codes "__EnumValue") fields_of_enum_value) (codes "__EnumValue")
+unfolding built_in scalars introspection type_kinds directive_locations type_of of_no_file word
+enum_value_first true rest = refl
+enum_value_first false rest = refl
+
+directive_first : (floats : Bool) → IsFirst floats (object_type (codes "__Directive") fields_of_directive) (codes "__Directive")
+unfolding built_in scalars introspection type_kinds directive_locations type_of of_no_file word
+directive_first true rest = refl
+directive_first false rest = refl
+
+kinds_first : (floats : Bool) → IsFirst floats type_kinds (codes "__TypeKind")
+unfolding built_in scalars introspection type_kinds directive_locations type_of of_no_file word
+kinds_first true rest = refl
+kinds_first false rest = refl
+
+locations_first : (floats : Bool) → IsFirst floats directive_locations (codes "__DirectiveLocation")
+unfolding built_in scalars introspection type_kinds directive_locations type_of of_no_file word
+locations_first true rest = refl
+locations_first false rest = refl
 
 -- the fields of such a type
 unsited_field : (fs : List FieldDefinition) (name : List ℕ) (d : Sited FieldDefinition)
@@ -71,27 +120,27 @@ module _ (files : Files) (kept : ExtendsNoReserved files) where
 
   pub schema_fields : HasFields (codes "__Schema") fields_of_schema
   unfolding built_in scalars introspection type_kinds directive_locations type_of of_no_file word
-  schema_fields = of_fields (codes "__Schema") fields_of_schema (the_type (object_type (codes "__Schema") fields_of_schema) (codes "__Schema") refl refl)
+  schema_fields = of_fields (codes "__Schema") fields_of_schema (the_type (object_type (codes "__Schema") fields_of_schema) (codes "__Schema") refl (schema_first files.profile.floats (of_files files.schema)))
 
   pub type_fields : HasFields (codes "__Type") fields_of_type
   unfolding built_in scalars introspection type_kinds directive_locations type_of of_no_file word
-  type_fields = of_fields (codes "__Type") fields_of_type (the_type (object_type (codes "__Type") fields_of_type) (codes "__Type") refl refl)
+  type_fields = of_fields (codes "__Type") fields_of_type (the_type (object_type (codes "__Type") fields_of_type) (codes "__Type") refl (type_first files.profile.floats (of_files files.schema)))
 
   pub field_fields : HasFields (codes "__Field") fields_of_field
   unfolding built_in scalars introspection type_kinds directive_locations type_of of_no_file word
-  field_fields = of_fields (codes "__Field") fields_of_field (the_type (object_type (codes "__Field") fields_of_field) (codes "__Field") refl refl)
+  field_fields = of_fields (codes "__Field") fields_of_field (the_type (object_type (codes "__Field") fields_of_field) (codes "__Field") refl (field_first files.profile.floats (of_files files.schema)))
 
   pub input_value_fields : HasFields (codes "__InputValue") fields_of_input_value
   unfolding built_in scalars introspection type_kinds directive_locations type_of of_no_file word
-  input_value_fields = of_fields (codes "__InputValue") fields_of_input_value (the_type (object_type (codes "__InputValue") fields_of_input_value) (codes "__InputValue") refl refl)
+  input_value_fields = of_fields (codes "__InputValue") fields_of_input_value (the_type (object_type (codes "__InputValue") fields_of_input_value) (codes "__InputValue") refl (input_value_first files.profile.floats (of_files files.schema)))
 
   pub enum_value_fields : HasFields (codes "__EnumValue") fields_of_enum_value
   unfolding built_in scalars introspection type_kinds directive_locations type_of of_no_file word
-  enum_value_fields = of_fields (codes "__EnumValue") fields_of_enum_value (the_type (object_type (codes "__EnumValue") fields_of_enum_value) (codes "__EnumValue") refl refl)
+  enum_value_fields = of_fields (codes "__EnumValue") fields_of_enum_value (the_type (object_type (codes "__EnumValue") fields_of_enum_value) (codes "__EnumValue") refl (enum_value_first files.profile.floats (of_files files.schema)))
 
   pub directive_fields : HasFields (codes "__Directive") fields_of_directive
   unfolding built_in scalars introspection type_kinds directive_locations type_of of_no_file word
-  directive_fields = of_fields (codes "__Directive") fields_of_directive (the_type (object_type (codes "__Directive") fields_of_directive) (codes "__Directive") refl refl)
+  directive_fields = of_fields (codes "__Directive") fields_of_directive (the_type (object_type (codes "__Directive") fields_of_directive) (codes "__Directive") refl (directive_first files.profile.floats (of_files files.schema)))
 
   -- ---- the values of an enum
 
@@ -106,8 +155,8 @@ module _ (files : Files) (kept : ExtendsNoReserved files) where
 
   pub kind_value : (name : List ℕ) → list_any (bytes_eq name) (map (λ (v : Sited EnumValueDefinition). v.node.name.text) (alone type_kinds).values) ≡ true → HasValue (schema_of files) (codes "__TypeKind") name
   unfolding built_in scalars introspection type_kinds directive_locations type_of of_no_file word
-  kind_value name among = has_value (codes "__TypeKind") type_kinds (alone type_kinds).values (the_type type_kinds (codes "__TypeKind") refl refl) refl name among
+  kind_value name among = has_value (codes "__TypeKind") type_kinds (alone type_kinds).values (the_type type_kinds (codes "__TypeKind") refl (kinds_first files.profile.floats (of_files files.schema))) refl name among
 
   pub location_value : (name : List ℕ) → list_any (bytes_eq name) (map (λ (v : Sited EnumValueDefinition). v.node.name.text) (alone directive_locations).values) ≡ true → HasValue (schema_of files) (codes "__DirectiveLocation") name
   unfolding built_in scalars introspection type_kinds directive_locations type_of of_no_file word
-  location_value name among = has_value (codes "__DirectiveLocation") directive_locations (alone directive_locations).values (the_type directive_locations (codes "__DirectiveLocation") refl refl) refl name among
+  location_value name among = has_value (codes "__DirectiveLocation") directive_locations (alone directive_locations).values (the_type directive_locations (codes "__DirectiveLocation") refl (locations_first files.profile.floats (of_files files.schema))) refl name among

@@ -105,7 +105,7 @@ module _ (files : Files) (given : Given) (holds : IsIntrospectable files) where
 
   called_object : (o : Option (List ℕ)) (x : Node) → option_and_then (type_called s i) o ≡ Some x → IsObject s (codes "__Type") x
   called_object None x is = absurd (none_some x is)
-  called_object (Some name) x is = by (is_shown i.has_int i.has_id name) is where
+  called_object (Some name) x is = by (is_shown i.has_int i.has_id i.has_float name) is where
     by : (c : Bool) → (if c then named_node s name else None) ≡ Some x → IsObject s (codes "__Type") x
     by true h = named_object s name x h
     by false h = absurd (none_some x h)

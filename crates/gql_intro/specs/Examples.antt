@@ -91,10 +91,11 @@ query p = a_type p kind.Object (parts.Object [] (old_field p ∷ new_field p ∷
     (record { file = None; node = old_field p } ∷ record { file = None; node = new_field p } ∷ [])
     (codes "Query")
 
--- `type Query { old: Int @deprecated new: Int }`, with the scalars Int and ID
+-- `type Query { old: Int @deprecated new: Int }`, with the scalars Int, ID and Float
 abbrev the_schema : Place → Schema
 the_schema p = record {
-  types = query p ∷ int p ∷ a_type p kind.Scalar parts.Scalar [] (codes "ID") ∷ [];
+  types = query p ∷ int p ∷ a_type p kind.Scalar parts.Scalar [] (codes "ID")
+      ∷ a_type p kind.Scalar parts.Scalar [] (codes "Float") ∷ [];
   directives = [];
   roots = record {
     kind = operation.Query;
@@ -104,12 +105,13 @@ the_schema p = record {
   possible = [];
 }
 
--- what is made for that schema, whose files refer to Int and not to ID
+-- what is made for that schema, whose files refer to Int and neither to ID nor to Float
 abbrev made : IntroSchema
 made = record {
   types = codes "Int" ∷ codes "Query" ∷ [];
   has_int = true;
   has_id = false;
+  has_float = false;
   description = None;
   meta = meta_fields;
 }
@@ -122,8 +124,8 @@ plain = record { name = None; include_deprecated = None }
 abbrev by_name : List ℕ → Given
 by_name n = record { name = Some n; include_deprecated = None }
 
--- the types in the order of their names, without ID
-types_in_order : (p : Place) → shown_types (the_schema p) true false
+-- the types in the order of their names, without ID and Float
+types_in_order : (p : Place) → shown_types (the_schema p) true false false
     ≡ codes "Int" ∷ codes "Query" ∷ []
 types_in_order p = refl
 
@@ -141,6 +143,11 @@ type_query p = refl
 type_id : (p : Place)
     → resolve (the_schema p) made (by_name (codes "ID")) query_root (codes "__type") ≡ Some null
 type_id p = refl
+
+-- so is `{ __type(name: "Float") }`, as the files do not refer to Float
+type_float : (p : Place)
+    → resolve (the_schema p) made (by_name (codes "Float")) query_root (codes "__type") ≡ Some null
+type_float p = refl
 
 -- `fields`, and `fields(includeDeprecated: true)`
 fields_of_query : (p : Place)

@@ -47,7 +47,7 @@ root_name s = option_map_or (λ (r : Root). Some r.name.node.text) (root_of s op
 
 -- the type of this name, if introspection shows it
 abbrev pub type_called : Schema → IntroSchema → List ℕ → Option Node
-type_called s i name = if is_shown i.has_int i.has_id name then named_node s name else None
+type_called s i name = if is_shown i.has_int i.has_id i.has_float name then named_node s name else None
 
 -- the fields of the query root that introspection adds
 abbrev pub root_rows : Schema → IntroSchema → Given → List Row

@@ -14,17 +14,19 @@ use Rattle.gql_intro.specs.declared.made.IntroSchema.{IntroSchema}
 use Rattle.gql_intro.specs.MetaFields.{meta_fields}
 use Rattle.gql_intro.specs.References.{refer}
 
--- whether introspection shows a type of this name: Int and ID only if the schema files refer to
--- them (a schema may leave out a scalar that it does not use, GraphQL 3.5.1 and 3.5.5)
-abbrev pub is_shown : Bool → Bool → List ℕ → Bool
-is_shown has_int has_id name =
+-- whether introspection shows a type of this name: Int, ID and Float only if the schema files refer
+-- to them (a schema may leave out a scalar that it does not use, GraphQL 3.5.1, 3.5.2 and 3.5.5)
+abbrev pub is_shown : Bool → Bool → Bool → List ℕ → Bool
+is_shown has_int has_id has_float name =
     if bytes_eq name (codes "Int") then has_int
     else if bytes_eq name (codes "ID") then has_id
+    else if bytes_eq name (codes "Float") then has_float
     else true
 
 -- the names of the types that introspection shows, in the order of their bytes
-abbrev pub shown_types : Schema → Bool → Bool → List (List ℕ)
-shown_types s has_int has_id = in_order (filter (is_shown has_int has_id) (map name_of s.types))
+abbrev pub shown_types : Schema → Bool → Bool → Bool → List (List ℕ)
+shown_types s has_int has_id has_float =
+    in_order (filter (is_shown has_int has_id has_float) (map name_of s.types))
 
 -- the schema definition, if this is one
 abbrev pub schema_of : Tree → Option SchemaDefinition
@@ -54,9 +56,11 @@ description_of files =
 -- what is made once for the schema of these files
 abbrev pub made_of : Files → Schema → IntroSchema
 made_of files s = record {
-  types = shown_types s (refer files.schema (codes "Int")) (refer files.schema (codes "ID"));
+  types = shown_types s (refer files.schema (codes "Int")) (refer files.schema (codes "ID"))
+      (refer files.schema (codes "Float"));
   has_int = refer files.schema (codes "Int");
   has_id = refer files.schema (codes "ID");
+  has_float = refer files.schema (codes "Float");
   description = description_of files.schema;
   meta = meta_fields;
 }

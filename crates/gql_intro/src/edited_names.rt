@@ -71,13 +71,15 @@ fn add_shown<'n>(
     names: &'n [Text],
     has_int: bool,
     has_id: bool,
+    has_float: bool,
     found: &mut Vec<&'n str>,
 ) -> Result<(), AllocError>
     ensures { OnOk result (map (λ n. n.now) found.new.items
-        ≡ map (λ n. n.now) found.old.items ++ filter (is_shown has_int has_id) names.now) }
+        ≡ map (λ n. n.now) found.old.items
+        ++ filter (is_shown has_int has_id has_float) names.now) }
 {
     for name in names {
-        if is_shown(has_int, has_id, name.as_str()) {
+        if is_shown(has_int, has_id, has_float, name.as_str()) {
             found.push(name.as_str())?;
         }
     }
@@ -110,10 +112,12 @@ pub fn shown_in_order(
     names: &[Text],
     has_int: bool,
     has_id: bool,
+    has_float: bool,
 ) -> Result<Items<Text>, AllocError>
-    ensures { IfOk result (λ found. found ≡ in_order (filter (is_shown has_int has_id) names.now)) }
+    ensures { IfOk result (λ found. found
+        ≡ in_order (filter (is_shown has_int has_id has_float) names.now)) }
 {
     let mut found = Vec::new(alloc);
-    add_shown(names, has_int, has_id, &mut found)?;
+    add_shown(names, has_int, has_id, has_float, &mut found)?;
     in_order(alloc, found)
 }

@@ -24,9 +24,10 @@ use std::alloc::{AllocError, Global};
 pub struct IntroSchema {
     /// The names of the types, in the order of their bytes.
     types: Shared<SortedNames>,
-    /// Whether the schema files refer to Int, and to ID.
+    /// Whether the schema files refer to Int, to ID, and to Float.
     has_int: bool,
     has_id: bool,
+    has_float: bool,
     description: Option<Text>,
     meta: MetaFields,
 }
@@ -37,6 +38,7 @@ impl Drop for IntroSchema {
             types: _,
             has_int: _,
             has_id: _,
+            has_float: _,
             description: _,
             meta: _,
         } = self;
@@ -44,13 +46,15 @@ impl Drop for IntroSchema {
 }
 
 /// Whether introspection shows a type of that name.
-pub(crate) fn is_shown(has_int: bool, has_id: bool, name: &str) -> bool
-    ensures { result ≡ spec.is_shown has_int has_id name.now }
+pub(crate) fn is_shown(has_int: bool, has_id: bool, has_float: bool, name: &str) -> bool
+    ensures { result ≡ spec.is_shown has_int has_id has_float name.now }
 {
     if name == "Int" {
         has_int
     } else if name == "ID" {
         has_id
+    } else if name == "Float" {
+        has_float
     } else {
         true
     }
@@ -62,14 +66,15 @@ fn shown_names(
     types: &[Batched<SchemaType>],
     has_int: bool,
     has_id: bool,
+    has_float: bool,
 ) -> Result<Vec<&str>, AllocError>
     ensures { IfOk result (λ names. map (λ n. n.now) names.items
-        ≡ filter (spec.is_shown has_int has_id) (map name_of types.now)) }
+        ≡ filter (spec.is_shown has_int has_id has_float) (map name_of types.now)) }
 {
     let mut names = Vec::new(alloc);
     for of_type in types {
         let name = of_type.get().name();
-        if is_shown(has_int, has_id, name) {
+        if is_shown(has_int, has_id, has_float, name) {
             names.push(name)?;
         }
     }
@@ -82,10 +87,12 @@ fn shown_types(
     schema: &Schema,
     has_int: bool,
     has_id: bool,
+    has_float: bool,
 ) -> Result<SortedNames, AllocError>
-    ensures { IfOk result (λ names. names ≡ spec.shown_types schema.now has_int has_id) }
+    ensures { IfOk result (λ names. names
+        ≡ spec.shown_types schema.now has_int has_id has_float) }
 {
-    let names = shown_names(alloc, schema.types(), has_int, has_id)?;
+    let names = shown_names(alloc, schema.types(), has_int, has_id, has_float)?;
     SortedNames::new(alloc, names)
 }
 
@@ -144,11 +151,13 @@ pub fn intro_schema(
 {
     let has_int = refer(&files.schema, "Int");
     let has_id = refer(&files.schema, "ID");
-    let types = shown_types(alloc, schema, has_int, has_id)?;
+    let has_float = refer(&files.schema, "Float");
+    let types = shown_types(alloc, schema, has_int, has_id, has_float)?;
     Ok(IntroSchema {
         types: Shared::new(alloc, types)?,
         has_int,
         has_id,
+        has_float,
         description: description(&files.schema)?,
         meta: MetaFields::new(alloc)?,
     })
@@ -161,6 +170,7 @@ fn types_after_edit(
     schema: &Schema,
     has_int: bool,
     has_id: bool,
+    has_float: bool,
     edited: &Named<Text>,
     before: &Schema,
     made: &IntroSchema,
@@ -168,10 +178,11 @@ fn types_after_edit(
     ensures { IfOk result (λ names. KeepsOthers edited.now before.now schema.now
         → KeepsOthers edited.now schema.now before.now
         → made.now.types ≡ spec.shown_types before.now made.now.has_int made.now.has_id
-        → names ≡ spec.shown_types schema.now has_int has_id) }
+        made.now.has_float
+        → names ≡ spec.shown_types schema.now has_int has_id has_float) }
 {
-    if has_int != made.has_int || has_id != made.has_id {
-        let names = shown_types(alloc, schema, has_int, has_id)?;
+    if has_int != made.has_int || has_id != made.has_id || has_float != made.has_float {
+        let names = shown_types(alloc, schema, has_int, has_id, has_float)?;
         let names = Shared::new(alloc, names)?;
         return Ok(names);
     }
@@ -184,7 +195,7 @@ fn types_after_edit(
     let gone = Named::new(alloc, gone)?;
     let names = made
         .types()
-        .after_edit(alloc, &gone, came.as_slice(), has_int, has_id)?;
+        .after_edit(alloc, &gone, came.as_slice(), has_int, has_id, has_float)?;
     let names = Shared::new(alloc, names)?;
     Ok(names)
 }
@@ -208,11 +219,15 @@ pub fn intro_schema_after_edit(
 {
     let has_int = refer(&files.schema, "Int");
     let has_id = refer(&files.schema, "ID");
-    let types = types_after_edit(alloc, schema, has_int, has_id, edited, before, made)?;
+    let has_float = refer(&files.schema, "Float");
+    let types = types_after_edit(
+        alloc, schema, has_int, has_id, has_float, edited, before, made,
+    )?;
     Ok(IntroSchema {
         types,
         has_int,
         has_id,
+        has_float,
         description: outlined_description(outline)?,
         meta: MetaFields::new(alloc)?,
     })
@@ -243,8 +258,9 @@ impl IntroSchema {
 
     /// Whether introspection shows a type of that name.
     pub(crate) fn shows(&self, name: &str) -> bool
-        ensures { result ≡ spec.is_shown self.now.has_int self.now.has_id name.now }
+        ensures { result
+            ≡ spec.is_shown self.now.has_int self.now.has_id self.now.has_float name.now }
     {
-        is_shown(self.has_int, self.has_id, name)
+        is_shown(self.has_int, self.has_id, self.has_float, name)
     }
 }

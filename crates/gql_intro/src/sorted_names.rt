@@ -76,12 +76,13 @@ impl SortedNames {
         came: &[Text],
         has_int: bool,
         has_id: bool,
+        has_float: bool,
     ) -> Result<SortedNames, AllocError>
         ensures { IfOk result (λ found. found ≡ spec.in_order (filter (is_kept gone.now) self.now
-            ++ filter (is_shown has_int has_id) came.now)) }
+            ++ filter (is_shown has_int has_id has_float) came.now)) }
     {
         let went = all_in_order(alloc, gone.as_slice())?;
-        let shown = shown_in_order(alloc, came, has_int, has_id)?;
+        let shown = shown_in_order(alloc, came, has_int, has_id, has_float)?;
         let runs = self.runs.runs();
         let runs = edited_runs(alloc, runs, gone, went.as_slice(), shown.as_slice())?;
         Ok(SortedNames { runs })

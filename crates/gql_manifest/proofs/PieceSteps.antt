@@ -4,7 +4,7 @@ use Rattle.std.proofs.lemmas.List.{map-append, map_more, take_all}
 use Rattle.std.proofs.lemmas.List.Concat.{flat_map-append}
 use Rattle.gql_ast.specs.declared.definition.Definition.{Definition}
 use Rattle.gql_text.specs.Lexeme.{Lexeme, lexeme}
-use Rattle.gql_text.specs.Lexis.{IsLexed}
+use Rattle.gql_text.specs.Lexis.{IsLexed, text_limit}
 use Rattle.gql_text.specs.declared.token.Token.{Token}
 use Rattle.gql_manifest.specs.Origins.{place_of}
 use Rattle.gql_manifest.specs.Packing.{texts_joined}
@@ -27,7 +27,7 @@ blanks_more tokens i t texts old new within is was added joined =
     ∙ sym (ap with_blanks (map_more lexeme tokens i t within))
 
 -- all tokens
-pub blanks_all : (text : List ℕ) (tokens items : List Token) (i : ℕ) (joined : List ℕ) → IsLexed text (map lexeme tokens) → items ≡ tokens → joined ≡ with_blanks (map lexeme (take i items)) → length items ≤ i
+pub blanks_all : (text : List ℕ) (tokens items : List Token) (i : ℕ) (joined : List ℕ) → IsLexed text_limit text (map lexeme tokens) → items ≡ tokens → joined ≡ with_blanks (map lexeme (take i items)) → length items ≤ i
     → HasTokens text joined
 blanks_all text tokens items i joined lexed same is past =
     (map lexeme tokens, lexed, is ∙ ap (λ (ts : List Token). with_blanks (map lexeme ts)) (take_all i items past) ∙ ap (λ (ts : List Token). with_blanks (map lexeme ts)) same)

@@ -12,7 +12,7 @@ use Rattle.gql_grammar.specs.declared.fault.SyntaxFault.TheVariants as syntax
 use Rattle.gql_grammar.specs.declared.fault.SyntaxRefusal.{SyntaxRefusal}
 use Rattle.gql_parse_sdl.specs.DocumentFiles.{IsDocumentFault, IsDocumentFile}
 use Rattle.gql_text.specs.Lexeme.{Lexeme}
-use Rattle.gql_text.specs.Lexis.{IsLexed}
+use Rattle.gql_text.specs.Lexis.{IsLexed, text_limit}
 use Rattle.gql_text.specs.declared.place.Place as spots
 use Rattle.gql_manifest.specs.Origins.{Place, place_of}
 use Rattle.gql_manifest.specs.declared.fault.ManifestFault.{ManifestFault}
@@ -55,7 +55,7 @@ with_blanks = flat_map (λ (t : Lexeme). t.text ++ 32 ∷ [])
 
 -- the text has these tokens
 abbrev pub HasTokens : List ℕ → List ℕ → Type 0
-HasTokens text tokens = (ts : List Lexeme) × IsLexed text ts × (tokens ≡ with_blanks ts)
+HasTokens text tokens = (ts : List Lexeme) × IsLexed text_limit text ts × (tokens ≡ with_blanks ts)
 
 -- the definition is brought by the operation at this place, and its text is the part of the
 -- operation's text from its first token to this offset, word for word
@@ -80,7 +80,8 @@ parsed_as = codes "manifest"
 
 -- the text of the operation at this place is a document, and brings these definitions
 abbrev pub Brings : Place → List ℕ → List Brought → Type 0
-Brings place text brought = (document : Document) × IsDocumentFile parsed_as text document
+Brings place text brought = (document : Document)
+    × IsDocumentFile text_limit parsed_as text document
     × AreParts place text document.definitions brought
 
 -- the fault gives the operation at this place, and where in its text the parser refuses it, by
@@ -97,7 +98,7 @@ SaysFault place syntax.Memory fault = ⊥
 
 -- the text of the operation at this place is no document, and the fault says so
 abbrev pub IsTextFault : Place → List ℕ → ManifestFault → Type 0
-IsTextFault place text fault = (f : SyntaxFault) × IsDocumentFault parsed_as text f
+IsTextFault place text fault = (f : SyntaxFault) × IsDocumentFault text_limit parsed_as text f
     × SaysFault place f fault
 
 -- an allocation fails, or it is a fault of this kind

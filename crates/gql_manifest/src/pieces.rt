@@ -5,6 +5,7 @@ ghost use Rattle.gql_grammar.specs.declared.fault.SyntaxFault.{SyntaxFault};
 ghost use Rattle.gql_manifest.specs.Origins.{place_of};
 ghost use Rattle.gql_manifest.specs.Pieces.{AreParts, Brings, HasTokens, IsPart, IsTextFault, OrMemory, SaysFault, brought_at, next_start, parsed_as, part_of};
 ghost use Rattle.gql_parse_sdl.specs.DocumentFiles.{IsDocumentFile};
+ghost use Rattle.gql_text.specs.Lexis.{text_limit};
 
 use crate::fault::ManifestFault;
 use crate::origin::Origin;
@@ -45,7 +46,7 @@ fn refused(at: &Origin, fault: SyntaxFault) -> ManifestFault
 
 /// The tree of the text of an operation.
 fn parsed(alloc: Global, at: &Origin, text: &str) -> Result<Document, ManifestFault>
-    ensures ok { IfOk result (IsDocumentFile parsed_as text.now) }
+    ensures ok { IfOk result (IsDocumentFile text_limit parsed_as text.now) }
     ensures err { IfErr result (OrMemory (IsTextFault (place_of at.now) text.now)) }
 {
     let Some(name) = FileName::read("manifest") else {

@@ -13,6 +13,7 @@ use Rattle.gql_ast.specs.declared.executable.Selection.TheVariants as s
 use Rattle.gql_ast.specs.declared.executable.Spread.{Spread}
 use Rattle.gql_facts.proofs.Parts.{scan_cons, scan_field, scan_inline, scan_spread}
 use Rattle.gql_facts.proofs.Trees.{Each, by_set}
+use Rattle.gql_facts.specs.Floats.{float_read}
 use Rattle.gql_facts.specs.ListMembers.{Contains-cases, Contains-here, Contains-nil, Contains-there}
 use Rattle.gql_facts.specs.Nodes.{composite, has_any, parent_below, parent_within}
 use Rattle.gql_facts.specs.OwnReads.{composite_reads, condition_reads, directive_reads, field_reads, field_scan, fragment_reads, inline_scan, operation_reads, root_parent, selected_root, selection_scan, set_scan, spread_scan, tree_reads, variable_reads}
@@ -155,8 +156,10 @@ module _ (F : Facts) (file : List ℕ) where
   ]
 
   pub of_tree_asked : (tr : Tree) (t : SetNode) → Contains (flat_map sets_of (list_of (tree_part F file tr))) t → (n : List ℕ) → Contains (names_spread t) n → Contains (tree_reads F tr) (key.FragmentOf n)
-  of_tree_asked (tree.Operation o) t c = own_asked (operation_reads F o) (operation_part F file o) (operation_asked o) t (ends (sets_of (operation_part F file o)) t c)
-  of_tree_asked (tree.Fragment f) t c = of_fragment_asked f t (ends (sets_of (fragment_part F file f)) t c)
+  of_tree_asked (tree.Operation o) t c = λ n h. Contains-there (key.FragmentOf n) float_read (operation_reads F o)
+      (own_asked (operation_reads F o) (operation_part F file o) (operation_asked o) t (ends (sets_of (operation_part F file o)) t c) n h)
+  of_tree_asked (tree.Fragment f) t c = λ n h. Contains-there (key.FragmentOf n) float_read (fragment_reads F f)
+      (of_fragment_asked f t (ends (sets_of (fragment_part F file f)) t c) n h)
   of_tree_asked (tree.Schema d) t c = absurd (Contains-nil t c)
   of_tree_asked (tree.Type d) t c = absurd (Contains-nil t c)
   of_tree_asked (tree.Directive d) t c = absurd (Contains-nil t c)

@@ -15,6 +15,7 @@ use Rattle.gql_ast.specs.declared.text.Name.{Name}
 use Rattle.gql_facts.proofs.Agreement.{AgreeAt}
 use Rattle.gql_facts.proofs.Parts.{scan_cons, scan_field, scan_inline}
 use Rattle.gql_facts.proofs.Trees.{Each, by_set}
+use Rattle.gql_facts.specs.Floats.{float_read}
 use Rattle.gql_facts.specs.ListMembers.{Contains-here, Contains-there, some_same}
 use Rattle.gql_facts.specs.Nodes.{composite, field_type, field_type_in, has_any, is_composite_fact, parent_below, parent_within}
 use Rattle.gql_facts.specs.OwnReads.{composite_reads, condition_reads, directive_reads, field_reads, field_scan, fragment_reads, inline_scan, operation_reads, root_parent, selected_by, selected_root, selection_scan, set_scan, tree_reads, variable_reads}
@@ -176,8 +177,8 @@ module _ (v u : Facts) where
         ∙ set_same (root_parent v o.kind) o.selections (composite_kind r asked) rest
 
     pub tree_same : (t : Tree) → AgreeAt v u (tree_reads v t) → tree_part u file t ≡ tree_part v file t
-    tree_same (tree.Operation o) agree = ap Some (operation_same o agree)
-    tree_same (tree.Fragment f) agree = ap Some (fragment_same f agree)
+    tree_same (tree.Operation o) agree = ap Some (operation_same o (λ k h. agree k (Contains-there k float_read (operation_reads v o) h)))
+    tree_same (tree.Fragment f) agree = ap Some (fragment_same f (λ k h. agree k (Contains-there k float_read (fragment_reads v f) h)))
     tree_same (tree.Schema d) agree = refl
     tree_same (tree.Type d) agree = refl
     tree_same (tree.Directive d) agree = refl

@@ -8,9 +8,10 @@ use Rattle.gql_ast.specs.declared.definition.Tree.TheVariants as tree
 use Rattle.gql_ast.specs.declared.fault.Fault.{Fault}
 use Rattle.gql_clashes.specs.Clashes.{Below, FieldsOf, IsClash, Reached, SeedsBetween, SeedsOf, here, seed, spread, step, turn}
 use Rattle.gql_clashes.specs.declared.sets.Mode.{Mode}
+use Rattle.gql_facts.specs.Floats.{float_read}
 use Rattle.gql_facts.specs.ListMembers.{Contains-flat_map_from, Contains-here, Contains-nil, Contains-there}
 use Rattle.gql_facts.specs.Nodes.{composite}
-use Rattle.gql_facts.specs.OwnReads.{root_parent}
+use Rattle.gql_facts.specs.OwnReads.{fragment_reads, root_parent}
 use Rattle.gql_facts.specs.Reads.{Agree, Reaches, Reads, by_definition, by_fragment, of_fragment, own}
 use Rattle.gql_facts.specs.Worlds.{Facts}
 use Rattle.gql_facts.specs.declared.fact.Fact.{Fact}
@@ -205,10 +206,10 @@ module _ (v u : Facts) (g h : FragmentFact) (agree : (k : Key) → PairReads v g
       Contains-append_left (sets_of p) [] (fragment_set v x) (Contains-append_right p.sets (fragment_set v x ∷ []) (fragment_set v x) (Contains-here (fragment_set v x) []))
 
   first_same : fragment_set u g ≡ fragment_set v g
-  first_same = ap set_of (fragment_same v u g.file g.fragment (λ k r. of_first k (own r)))
+  first_same = ap set_of (fragment_same v u g.file g.fragment (λ k r. of_first k (own (Contains-there k float_read (fragment_reads v g.fragment) r))))
 
   second_same : fragment_set u h ≡ fragment_set v h
-  second_same = ap set_of (fragment_same v u h.file h.fragment (λ k r. of_second k (own r)))
+  second_same = ap set_of (fragment_same v u h.file h.fragment (λ k r. of_second k (own (Contains-there k float_read (fragment_reads v h.fragment) r))))
 
   first_leads : EitherLeads (fragment_set v g)
   first_leads = inl (of_own (own_set g))

@@ -90,17 +90,8 @@ fn selected_type<W: World>(
     ensures lent { W.lent world.new ≡ W.lent world.old }
     ensures answer { IfOk result (λ t. t ≡ selected_root (W.facts world.old) kind) }
 {
-    match kind {
-        OperationKind::Query => {
-            let fact = world.fact(alloc, &Key::RootOf(OperationKind::Query))?;
-            root_in(&fact)
-        }
-        OperationKind::Mutation => {
-            let fact = world.fact(alloc, &Key::RootOf(OperationKind::Mutation))?;
-            root_in(&fact)
-        }
-        OperationKind::Subscription => Ok(None),
-    }
+    let fact = world.fact(alloc, &Key::RootOf(kind))?;
+    root_in(&fact)
 }
 
 /// The parent type of the fields of an operation of this kind.

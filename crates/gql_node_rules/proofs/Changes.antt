@@ -4,6 +4,7 @@ use Rattle.std.specs.Prelude.{option_map, option_and_then}
 use Rattle.std.proofs.lemmas.List.{take_more}
 use Rattle.std.proofs.lemmas.Slice.Eq.{bytes_eq-Decides}
 use denote.Enum.Bare.{same_true}
+use Rattle.gql_inputs.specs.InputTypes.{is_open}
 use Rattle.gql_inputs.specs.Lookups.{form_at, form_of, in_schema}
 use Rattle.gql_types.proofs.Members.{here, there}
 use Rattle.gql_types.specs.Edits.{KeepsOthers}
@@ -93,10 +94,11 @@ module _ (names : List (List ℕ)) (s t : Schema) (forth : KeepsOthers names s t
     | inr other ↦ ap (option_map (λ (u : SchemaType). u.kind)) (kept names s t forth back q other)
   ]
 
-  pub same_inputs : (found : List (List ℕ)) → NamesInputs s t names found → (q : List ℕ) → is_among found q ≡ false → in_schema s q ≡ in_schema t q
-  same_inputs found named q gone = elim (either (is_among names q)) [
-    | inl edited ↦ named q edited gone
-    | inr other ↦ ap (option_and_then form_of) (kept names s t forth back q other)
+  pub same_inputs : is_open s ≡ is_open t → (found : List (List ℕ)) → NamesInputs s t names found → (q : List ℕ) → is_among found q ≡ false
+      → in_schema s q ≡ in_schema t q
+  same_inputs floats found named q gone = elim (either (is_among names q)) [
+    | inl edited ↦ named q edited gone floats
+    | inr other ↦ let it = kept names s t forth back q other in λ k. option_and_then (form_of (floats k)) (it k)
   ]
 
 -- a name that is among some and another is among these
@@ -126,12 +128,12 @@ among_last n (m ∷ ns) = elim (either (bytes_eq n m)) [
 pub inputs_step : (s t : Schema) (names : List (List ℕ)) (i : ℕ) (n : List ℕ) (old new : List (List ℕ)) → i < length names → get_or names i n ≡ n
     → NamesInputs s t (take i names) old
     → ((q : List ℕ) → is_among old q ≡ true → is_among new q ≡ true)
-    → (is_among new n ≡ false → in_schema s n ≡ in_schema t n)
+    → (is_among new n ≡ false → is_open s ≡ is_open t → in_schema s n ≡ in_schema t n)
     → NamesInputs s t (take (i + 1) names) new
-inputs_step s t names i n old new within item before keeps named q found gone = elim (either (bytes_eq q n)) [
+inputs_step s t names i n old new within item before keeps named q found gone floats = elim (either (bytes_eq q n)) [
   | inl is ↦ let it : q ≡ n = same q n is in
-      subst (λ x. in_schema s x ≡ in_schema t x) (sym it) (named (subst (λ x. is_among new x ≡ false) it gone))
-  | inr other ↦ before q (among_before other) (not_before (either (is_among old q)))
+      subst (λ x. in_schema s x ≡ in_schema t x) (sym it) (named (subst (λ x. is_among new x ≡ false) it gone) floats)
+  | inr other ↦ before q (among_before other) (not_before (either (is_among old q))) floats
 ]
   where
     among_before : bytes_eq q n ≡ false → is_among (take i names) q ≡ true
@@ -143,22 +145,23 @@ inputs_step s t names i n old new within item before keeps named q found gone = 
 
 -- ---- input objects
 
-object_at : (t : SchemaType) (k : TypeKind) → same_kind k kind.InputObject ≡ is_object_form (form_at t k)
+object_at : (floats : Bool) (t : SchemaType) (k : TypeKind) → same_kind k kind.InputObject ≡ is_object_form (form_at floats t k)
 unfolding same_kind
-object_at t kind.Scalar = refl
-object_at t kind.Object = refl
-object_at t kind.Interface = refl
-object_at t kind.Union = refl
-object_at t kind.Enum = refl
-object_at t kind.InputObject = refl
+object_at floats t kind.Scalar = refl
+object_at floats t kind.Object = refl
+object_at floats t kind.Interface = refl
+object_at floats t kind.Union = refl
+object_at floats t kind.Enum = refl
+object_at floats t kind.InputObject = refl
 
 -- a type is an input object if its kind says so
-pub object_kind : (o : Option SchemaType) (k : TypeKind) → option_map (λ (t : SchemaType). t.kind) o ≡ Some k
-    → same_kind k kind.InputObject ≡ is_object_form (option_and_then form_of o)
-object_kind None k e = cc
-object_kind (Some t) k e = let is : t.kind ≡ k = cc in
-    subst (λ x. same_kind x kind.InputObject ≡ is_object_form (form_at t t.kind)) is (object_at t t.kind)
+pub object_kind : (floats : Bool) (o : Option SchemaType) (k : TypeKind) → option_map (λ (t : SchemaType). t.kind) o ≡ Some k
+    → same_kind k kind.InputObject ≡ is_object_form (option_and_then (form_of floats) o)
+object_kind floats None k e = cc
+object_kind floats (Some t) k e = let is : t.kind ≡ k = cc in
+    subst (λ x. same_kind x kind.InputObject ≡ is_object_form (form_at floats t t.kind)) is (object_at floats t t.kind)
 
-pub no_kind : (o : Option SchemaType) → option_map (λ (t : SchemaType). t.kind) o ≡ None → false ≡ is_object_form (option_and_then form_of o)
-no_kind None e = refl
-no_kind (Some t) e = cc
+pub no_kind : (floats : Bool) (o : Option SchemaType) → option_map (λ (t : SchemaType). t.kind) o ≡ None
+    → false ≡ is_object_form (option_and_then (form_of floats) o)
+no_kind floats None e = refl
+no_kind floats (Some t) e = cc

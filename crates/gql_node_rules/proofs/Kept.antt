@@ -116,8 +116,13 @@ module _ (n : AllNodes) (s t : Schema) (same : (x : Sited Name) → Contains (re
   role_same : all.role_faults n s ≡ all.role_faults n t
   role_same = λ k. s16_same k ++ (s21_same k ++ s22_same k)
 
+  p01_same : p01.faults n s ≡ p01.faults n t
+  p01_same = flat_map_within (p01.fault_of_name s) (p01.fault_of_name t) (references.references n) (λ x h.
+      ap (λ (b : Bool). if b then [] else p01.fault_of_unknown x)
+      (is_some_kind (type_named s x.node.text) ∙ ap is_some (same x h) ∙ sym (is_some_kind (type_named t x.node.text))))
+
   reference_same : all.reference_faults n s ≡ all.reference_faults n t
-  reference_same = ap (λ fs. fs ++ p01.faults n) s20_same
+  reference_same = λ k. s20_same k ++ p01_same k
 
 -- ---- values
 
@@ -240,16 +245,16 @@ module _ (d : Document) (s t : Schema) (c : FileCheck) (change : SchemaChange) (
   same_directives (inl e) a h = ap (λ ds. find (λ (x : Sited DirectiveDefinition). bytes_eq (name_of a) x.node.name.text) ds) (changed.directives e)
   same_directives (inr e) a h = absurd (none a (subst (λ xs. Contains xs a) (is.directives.none e) h))
 
-  same_agrees : FitsAsBefore change.inputs c.directives → (q : List ℕ) → Contains (value_types n s) q → AgreeAt s t q
-  same_agrees (inl e) q h w name = λ m p. changed.inputs m (subst (λ xs. is_among xs m ≡ false) (sym e) refl)
-  same_agrees (inr (flat, apart)) q h w name =
+  same_agrees : FitsAsBefore change c.directives → (q : List ℕ) → Contains (value_types n s) q → AgreeAt s t q
+  same_agrees (floats, inl e) q h w name = λ m p. changed.inputs floats m (subst (λ xs. is_among xs m ≡ false) (sym e) refl)
+  same_agrees (floats, inr (flat, apart)) q h w name =
       agree_flat (in_schema s) (in_schema t) w
       (subst (λ x. is_input_object s x ≡ false) (sym name) (is.directives.flat flat q h))
-      (subst (λ x. in_schema s x ≡ in_schema t x) (sym name) (changed.inputs q (apart q (is.directives.values q h))))
+      (subst (λ x. in_schema s x ≡ in_schema t x) (sym name) (changed.inputs floats q (apart q (is.directives.values q h))))
 
-  same_forms : FitsAsBefore change.inputs c.directives → (q : List ℕ) → Contains (value_types n s) q → in_schema s q ≡ in_schema t q
-  same_forms (inl e) q h = changed.inputs q (subst (λ xs. is_among xs q ≡ false) (sym e) refl)
-  same_forms (inr (flat, apart)) q h = changed.inputs q (apart q (is.directives.values q h))
+  same_forms : FitsAsBefore change c.directives → (q : List ℕ) → Contains (value_types n s) q → in_schema s q ≡ in_schema t q
+  same_forms (floats, inl e) q h = changed.inputs floats q (subst (λ xs. is_among xs q ≡ false) (sym e) refl)
+  same_forms (floats, inr (flat, apart)) q h = changed.inputs floats q (apart q (is.directives.values q h))
 
   same_appends : (change.mutation_root ≡ false) ⊎ (c.has_appends ≡ false) → s36.faults n s ≡ s36.faults n t
   same_appends (inl e) = appends_same n s t (changed.mutation_root e)
@@ -258,7 +263,7 @@ module _ (d : Document) (s t : Schema) (c : FileCheck) (change : SchemaChange) (
   pub kept : (change.directives ≡ false) ⊎ (c.directives.has_directives ≡ false)
       → (change.mutation_root ≡ false) ⊎ (c.has_appends ≡ false)
       → ((q : List ℕ) → contains bytes_eq c.types q ≡ true → is_among change.kinds q ≡ false)
-      → FitsAsBefore change.inputs c.directives
+      → FitsAsBefore change c.directives
       → IsCheckOf t d c
   kept directives root types values =
       let kinds = λ (x : Sited Name) (h : Contains (references.references n) x). changed.kinds x.node.text (types x.node.text (is.types x h)) in
@@ -284,7 +289,7 @@ module _ (d : Document) (s t : Schema) (c : FileCheck) (change : SchemaChange) (
       → directives ≡ (change.directives && c.directives.has_directives)
       → root ≡ (change.mutation_root && c.has_appends)
       → types ≡ list_any (contains bytes_eq c.types) change.kinds
-      → (values ≡ false → FitsAsBefore change.inputs c.directives)
+      → (values ≡ false → FitsAsBefore change c.directives)
       → first ≡ (directives || root) → second ≡ (types || values) → any ≡ (first || second) → not any ≡ true → IsCheckOf t d c
   kept_if directives root types values first second any is_directives is_root is_types fits is_first is_second is_any so =
       let none = neither first second (sym is_any ∙ no_if any so) in

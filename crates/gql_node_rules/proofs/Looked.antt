@@ -47,8 +47,12 @@ pub known_same : (n : AllNodes) (s : Schema) → of_all unknown (roles_of n s) �
 known_same n s = of_all_same unknown n s
     ∙ flat_map_same (λ x. unknown (with_kind s x)) (s20.fault_of_name s) (references.references n) (unknown_same s)
 
-pub floats_same : (n : AllNodes) (s : Schema) → of_all to_float (roles_of n s) ≡ p01.faults n
+float_same : (s : Schema) (x : Sited Name) → to_float (with_kind s x) ≡ p01.fault_of_name s x
+float_same s x = λ k. if is_some_map (λ (t : SchemaType). t.kind) (type_named s x.node.text) k then [] else p01.fault_of_unknown x
+
+pub floats_same : (n : AllNodes) (s : Schema) → of_all to_float (roles_of n s) ≡ p01.faults n s
 floats_same n s = of_all_same to_float n s
+    ∙ flat_map_same (λ x. to_float (with_kind s x)) (p01.fault_of_name s) (references.references n) (float_same s)
 
 -- three lists of faults were added
 pub three_added : {X : Type 0} (base one two three a b c p q r : List X) → one ≡ base ++ a → two ≡ one ++ b → three ≡ two ++ c

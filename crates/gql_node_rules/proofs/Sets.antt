@@ -12,6 +12,7 @@ use Rattle.gql_types.proofs.Members.{none, cases}
 use Rattle.gql_node_rules.specs.DirectiveUses.{FitsAsBefore}
 use Rattle.gql_node_rules.specs.SchemaChanges.{is_among}
 use Rattle.gql_node_rules.specs.declared.directive_use.DirectiveUse.{DirectiveUse}
+use Rattle.gql_node_rules.specs.declared.schema_change.SchemaChange.{SchemaChange}
 
 pub itself : (a : List ℕ) → bytes_eq a a ≡ true
 itself a = (bytes_eq-Decides a a).1 refl
@@ -93,13 +94,21 @@ pub one_false : (a b : Bool) → (a && b) ≡ false → (a ≡ false) ⊎ (b ≡
 one_false true b e = inr e
 one_false false b e = inl refl
 
--- values fit as before if no input type changed, or none of theirs did and none is an input object
-pub fits : (changed : List (List ℕ)) (u : DirectiveUse) (empty one : Bool) → empty ≡ (length changed == 0)
-    → one ≡ list_any (contains bytes_eq u.values) changed → (not empty && (u.has_input_objects || one)) ≡ false → FitsAsBefore changed u
-fits changed u true one is_empty is_one e = inl (nil_from_length changed (grind (arith, nat_tests, is_empty)))
-fits changed u false one is_empty is_one e =
+-- no input type changed, or none of those of the values did and none is an input object
+unchanged : (changed : List (List ℕ)) (u : DirectiveUse) (empty one : Bool) → empty ≡ (length changed == 0)
+    → one ≡ list_any (contains bytes_eq u.values) changed → (not empty && (u.has_input_objects || one)) ≡ false
+    → (changed ≡ []) ⊎ ((u.has_input_objects ≡ false) × ((q : List ℕ) → contains bytes_eq u.values q ≡ true → is_among changed q ≡ false))
+unchanged changed u true one is_empty is_one e = inl (nil_from_length changed (grind (arith, nat_tests, is_empty)))
+unchanged changed u false one is_empty is_one e =
     let r = neither u.has_input_objects one e in
     inr (r.0, apart (contains bytes_eq u.values) changed (sym is_one ∙ r.1))
+
+-- values fit as before if Float is a type as before, and no input type of theirs changed
+pub fits : (c : SchemaChange) (u : DirectiveUse) (empty one : Bool) → empty ≡ (length c.inputs == 0)
+    → one ≡ list_any (contains bytes_eq u.values) c.inputs → (c.floats || (not empty && (u.has_input_objects || one))) ≡ false → FitsAsBefore c u
+fits c u empty one is_empty is_one e =
+    let r = neither c.floats (not empty && (u.has_input_objects || one)) e in
+    (r.0, unchanged c.inputs u empty one is_empty is_one r.1)
 
 or_five : (a b c d e : Bool) → ((((a || b) || c) || d) || e) ≡ (a || (b || (c || (d || e))))
 or_five true b c d e = refl

@@ -14,6 +14,7 @@ use Rattle.gql_node_rules.specs.S33BadArgumentValues as s33
 use Rattle.gql_node_rules.specs.SchemaChanges.{is_among}
 use Rattle.gql_node_rules.specs.ValueTypes.{is_input_object, types_by}
 use Rattle.gql_node_rules.specs.declared.directive_use.DirectiveUse.{DirectiveUse}
+use Rattle.gql_node_rules.specs.declared.schema_change.SchemaChange.{SchemaChange}
 
 -- the faults of these nodes, and of the directives on them
 abbrev pub faults_of_all : Schema → List Annotations → List Resolution → List Fault
@@ -43,8 +44,8 @@ abbrev pub is_referred : Roles → List ℕ → Bool
 is_referred r q = is_name_of r.inputs q || (is_name_of r.outputs q || (is_name_of r.interfaces q
     || (is_name_of r.members q || is_name_of r.roots q)))
 
--- values fit their types after a change as before: no input type changed, or those of the values
--- did not, and none of them is an input object
-abbrev pub FitsAsBefore : List (List ℕ) → DirectiveUse → Type 0
-FitsAsBefore changed u = (changed ≡ []) ⊎ ((u.has_input_objects ≡ false)
-    × ((q : List ℕ) → contains bytes_eq u.values q ≡ true → is_among changed q ≡ false))
+-- values fit their types after a change as before: Float is a type as before, and no input type
+-- changed, or those of the values did not, and none of them is an input object
+abbrev pub FitsAsBefore : SchemaChange → DirectiveUse → Type 0
+FitsAsBefore c u = (c.floats ≡ false) × ((c.inputs ≡ []) ⊎ ((u.has_input_objects ≡ false)
+    × ((q : List ℕ) → contains bytes_eq u.values q ≡ true → is_among c.inputs q ≡ false)))

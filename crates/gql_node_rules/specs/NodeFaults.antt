@@ -28,7 +28,7 @@ role_faults n s = s16.faults n s ++ (s21.faults n s ++ s22.faults n s)
 
 -- the faults by the rules on all references to types
 abbrev pub reference_faults : AllNodes → Schema → List Fault
-reference_faults n s = s20.faults n s ++ p01.faults n
+reference_faults n s = s20.faults n s ++ p01.faults n s
 
 -- the faults by the rules on applied directives
 abbrev pub directive_faults : AllNodes → Schema → List Fault

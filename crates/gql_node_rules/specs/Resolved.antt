@@ -105,7 +105,7 @@ unknown r = if is_some r.kind || p01.is_float r.name.node.text then [] else faul
 
 -- the fault of a reference by P01
 abbrev pub to_float : TypeReference → List Fault
-to_float r = p01.fault_of_name r.name
+to_float r = if is_some r.kind then [] else p01.fault_of_unknown r.name
 
 -- the faults of all references by one rule
 abbrev pub of_all : (TypeReference → List Fault) → Roles → List Fault

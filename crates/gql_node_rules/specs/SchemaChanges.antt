@@ -2,6 +2,7 @@
 use Rattle.std.specs.Prelude.{◌≡◌, ℕ, List, Bool, true, false, not, Option, Some, None, bytes_eq, find, is_some, option_map}
 use Rattle.gql_ast.specs.declared.text.Name.{Name}
 use Rattle.gql_built_in.specs.declared.sited.Sited.{Sited}
+use Rattle.gql_inputs.specs.InputTypes.{is_open}
 use Rattle.gql_inputs.specs.Lookups.{in_schema}
 use Rattle.gql_types.specs.Kinds.{same_kind}
 use Rattle.gql_types.specs.Parts.{kind_of}
@@ -42,18 +43,19 @@ same_known (Some kind) (Some other) = same_kind kind other
 abbrev pub has_other_kind : Schema → Schema → List ℕ → Bool
 has_other_kind s t name = not (same_known (kind_named s name) (kind_named t name))
 
--- a name among these that is not the same as an input type in both schemas is among the found ones
+-- a name among these that is not the same as an input type in both schemas is among the found ones,
+-- where Float is a type in both or in neither
 abbrev pub NamesInputs : Schema → Schema → List (List ℕ) → List (List ℕ) → Type 0
 NamesInputs s t names found = (q : List ℕ) → is_among names q ≡ true → is_among found q ≡ false
-    → in_schema s q ≡ in_schema t q
+    → is_open s ≡ is_open t → in_schema s q ≡ in_schema t q
 
 -- two schemas differ in nothing else, of what the rules on nodes ask
 pub record IsChange (c : SchemaChange) (s t : Schema) : Type 0 where
   -- each other name has the same kind in both
   pub kinds : (name : List ℕ) → is_among c.kinds name ≡ false
       → kind_named s name ≡ kind_named t name
-  -- each other name is the same as an input type in both
-  pub inputs : (name : List ℕ) → is_among c.inputs name ≡ false
+  -- each other name is the same as an input type in both, unless Float is a type in one of them alone
+  pub inputs : c.floats ≡ false → (name : List ℕ) → is_among c.inputs name ≡ false
       → in_schema s name ≡ in_schema t name
   -- the directives are the same, unless they are named as changed
   pub directives : c.directives ≡ false → s.directives ≡ t.directives

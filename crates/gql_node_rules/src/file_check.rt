@@ -115,12 +115,12 @@ impl FileCheck {
 
     /// Whether the values that the file's directives give may fit their types in another way.
     fn has_other_inputs(&self, change: &SchemaChange) -> bool
-        ensures { result ≡ false → FitsAsBefore change.now.inputs self.now.directives }
+        ensures { result ≡ false → FitsAsBefore change.now self.now.directives }
     {
         let inputs = change.inputs.as_slice();
         let is_changed = has_one(inputs, &self.directives.values);
         let may_differ = is_either(self.directives.has_input_objects, is_changed);
-        are_both(!inputs.is_empty(), may_differ)
+        is_either(change.floats, are_both(!inputs.is_empty(), may_differ))
     }
 
     /// Whether the check is still that of the file after this change of the schema.

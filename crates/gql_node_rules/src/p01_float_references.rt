@@ -1,4 +1,4 @@
-//! P01, Float References: a schema file refers to Float, which this registry does not serve.
+//! P01, Float References: a schema file refers to Float, where it is not served.
 //! It is this registry's own rule.
 //!
 //! At fault: `type Query { a: Float }`
@@ -28,7 +28,7 @@ fn check_reference(
     ensures { OnOk result (faults.new.items ≡ faults.old.items
         ++ to_float (reference referring.now)) }
 {
-    if is_float(referring.name.name.as_str()) {
+    if referring.kind.is_none() && is_float(referring.name.name.as_str()) {
         add_fault_of(alloc, Rule::P01, &referring.name, faults)?;
     }
     Ok(())

@@ -1,5 +1,6 @@
 //! Whether a name is the same as an input type in two schemas.
-ghost use Rattle.std.specs.Prelude.{◌≡◌, IfOk, IsTrue, map};
+ghost use Rattle.std.specs.Prelude.{◌≡◌, Bool, IfOk, IsTrue, map};
+ghost use Rattle.gql_inputs.specs.InputTypes.{is_open};
 ghost use Rattle.gql_inputs.specs.Lookups.{field_of, form_of, in_schema};
 ghost use Rattle.gql_types.specs.Possible.{name_of};
 
@@ -53,7 +54,8 @@ fn are_same_fields(
 fn is_same_form(alloc: Global, of_type: &SchemaType, other: &SchemaType) -> Result<bool, AllocError>
     requires name { name_of of_type.now ≡ name_of other.now }
     requires kind { of_type.now.kind ≡ other.now.kind }
-    ensures { IfOk result (λ is_same. IsTrue is_same → form_of of_type.now ≡ form_of other.now) }
+    ensures { IfOk result (λ is_same. IsTrue is_same
+        → (floats : Bool) → form_of floats of_type.now ≡ form_of floats other.now) }
 {
     match of_type.kind {
         TypeKind::Enum => Ok(of_type.values.has_names_of(&other.values)),
@@ -68,7 +70,8 @@ fn is_same_form(alloc: Global, of_type: &SchemaType, other: &SchemaType) -> Resu
 /// Whether two types of one name are the same input type, or neither is one.
 fn is_same_type(alloc: Global, of_type: &SchemaType, other: &SchemaType) -> Result<bool, AllocError>
     requires { name_of of_type.now ≡ name_of other.now }
-    ensures { IfOk result (λ is_same. IsTrue is_same → form_of of_type.now ≡ form_of other.now) }
+    ensures { IfOk result (λ is_same. IsTrue is_same
+        → (floats : Bool) → form_of floats of_type.now ≡ form_of floats other.now) }
 {
     if of_type.kind.is(other.kind) {
         return is_same_form(alloc, of_type, other);
@@ -76,14 +79,15 @@ fn is_same_type(alloc: Global, of_type: &SchemaType, other: &SchemaType) -> Resu
     Ok(!of_type.kind.is_input() && !other.kind.is_input())
 }
 
-/// Whether a name is the same as an input type in two schemas: the same one, or none in both.
+/// Whether a name is the same as an input type in two schemas: the same one, or none in both. Float is
+/// a type in both, or in neither.
 pub fn is_same_input(
     alloc: Global,
     schema: &Schema,
     other: &Schema,
     name: &str,
 ) -> Result<bool, AllocError>
-    ensures { IfOk result (λ is_same. IsTrue is_same
+    ensures { IfOk result (λ is_same. IsTrue is_same → is_open schema.now ≡ is_open other.now
         → in_schema schema.now name.now ≡ in_schema other.now name.now) }
 {
     match schema.get(name) {

@@ -1,5 +1,6 @@
 //! What an edit of a schema file changes in the schema, of what the rules on nodes ask.
 ghost use Rattle.std.specs.Prelude.{◌≡◌, ◌++◌, ◌∷◌, [], ℕ, List, IfOk, OnOk, IsTrue, false, filter, if◌then◌else◌, true};
+ghost use Rattle.gql_inputs.specs.InputTypes.{is_open};
 ghost use Rattle.gql_inputs.specs.Lookups.{in_schema};
 ghost use Rattle.gql_types.specs.Edits.{KeepsOthers};
 ghost use Rattle.gql_node_rules.specs.SchemaChanges as spec;
@@ -7,15 +8,19 @@ ghost use Rattle.gql_node_rules.specs.SchemaChanges as spec;
 use crate::s36_misplaced_appends::mutation_root;
 use crate::same_input::is_same_input;
 use gql_ast::{DirectiveDefinition, Same, Shared, Text, same_option};
+use gql_inputs::is_open;
 use gql_types::{Named, Schema, SchemaType, Sited, TypeKind};
 use std::alloc::{AllocError, Global};
 
-/// What may differ between the schema before and after an edit: kinds of types, input types, the
-/// directives, and the definition of the mutation root type.
+/// What may differ between the schema before and after an edit: kinds of types, whether Float is a
+/// type, input types, the directives, and the definition of the mutation root type.
 #[derive(Drop)]
 pub struct SchemaChange {
     /// The names that have another kind, or that no longer or newly have one.
     pub kinds: Named<Text>,
+    /// Whether Float is a type in one of the two alone: scalars of schema files take other numbers
+    /// then.
+    pub floats: bool,
     /// The edited names that are not the same as an input type before and after the edit.
     pub inputs: Named<Text>,
     pub directives: bool,
@@ -62,6 +67,7 @@ fn add_if_other_input(
     ensures keeps { OnOk result ((q : List ℕ) → spec.is_among found.old.items q ≡ true
         → spec.is_among found.new.items q ≡ true) }
     ensures named { OnOk result (spec.is_among found.new.items name.now ≡ false
+        → is_open before.now ≡ is_open after.now
         → in_schema before.now name.now ≡ in_schema after.now name.now) }
 {
     if !is_same_input(alloc, before, after, name.as_str())? {
@@ -101,6 +107,13 @@ fn other_inputs(
         add_if_other_input(alloc, before, after, name, &mut found)?;
     }
     Ok(found)
+}
+
+/// Whether Float is a type in one of two schemas alone.
+fn has_other_floats(schema: &Schema, other: &Schema) -> bool
+    ensures { result ≡ false → is_open schema.now ≡ is_open other.now }
+{
+    is_open(schema) != is_open(other)
 }
 
 /// Whether two definitions of directives are the same, with the same places.
@@ -173,6 +186,7 @@ impl SchemaChange {
         let inputs = other_inputs(alloc, before, after, edited.as_slice())?;
         Ok(SchemaChange {
             kinds: Named::new(alloc, kinds)?,
+            floats: has_other_floats(before, after),
             inputs: Named::new(alloc, inputs)?,
             directives: !has_same_directives(before.directives(), after.directives()),
             mutation_root: !has_same_mutation_root(before, after),

@@ -4,6 +4,7 @@ use Rattle.std.proofs.Common.{ap, sym, ◌∙◌, subst, inl, inr, true≢false}
 use Rattle.std.proofs.lemmas.List.Elements.{Contains-append_left, Contains-append_right, Contains-append_cases}
 use Rattle.std.proofs.lemmas.Slice.Eq.{bytes_eq-Decides}
 use Rattle.gql_facts.proofs.Agreement.{reaches_there, reaches_back, reads_there, reads_back}
+use Rattle.gql_facts.specs.Floats.{float_read}
 use Rattle.gql_facts.specs.ListMembers.{Contains-cases, Contains-flat_map, Contains-flat_map_from, Contains-here, Contains-map, Contains-nil, Contains-there, either, found_in}
 use Rattle.gql_facts.specs.OwnReads.{fragment_reads}
 use Rattle.gql_facts.specs.Members.{Lists}
@@ -110,7 +111,8 @@ module _ (F : Facts) (names : List (List ℕ)) (world : IsWorld F names) where
         let m = Contains-flat_map_from with_reached xs f c in
         let x = m.0 in
         let r : Reaches F (definition_of x.fragment) g = elim (of_one x f (right x m.1) m.2) [
-          | inl s ↦ by_definition (subst (λ (z : FragmentFact). Contains (fragment_reads F z.fragment) (key.FragmentOf n)) s h) e
+          | inl s ↦ by_definition (Contains-there (key.FragmentOf n) float_read (fragment_reads F x.fragment.fragment)
+              (subst (λ (z : FragmentFact). Contains (fragment_reads F z.fragment) (key.FragmentOf n)) s h)) e
           | inr t ↦ by_fragment t h e
         ] in
         Contains-flat_map with_reached xs x g m.1 (Contains-there g x.fragment x.reached ((right x m.1).reached.complete g r))

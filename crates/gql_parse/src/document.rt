@@ -1,6 +1,7 @@
 //! Whole documents: from a source to its tree, or to the one fault that it has.
 ghost use Rattle.std.specs.Prelude.{◌≡◌, ◌⊎◌, ℕ, List, map, IfOk, Ok, Err};
 ghost use Rattle.gql_text.specs.Lexeme.{lexeme};
+ghost use Rattle.gql_text.specs.Lexis.{text_limit};
 ghost use Rattle.gql_text.specs.declared.place.Place.{Place as ThePlace};
 ghost use Rattle.gql_ast.specs.declared.definition.Document.{Document as TheDocument};
 ghost use Rattle.gql_grammar.specs.Files.{Accepts, OrMemory, Parses, Refuses};
@@ -59,16 +60,16 @@ pub fn parse_tokens(
 /// The document of a source, or its fault: one of the lexer, else 111 or 112.
 pub fn parse(alloc: Global, file: FileName, source: &str) -> Result<Document, SyntaxFault>
     // A document that is returned derives from the source's tokens, with at most 100 levels.
-    ensures accepted { IfOk result (λ d. IsSourceOf (executable file) source.now d) }
+    ensures accepted { IfOk result (λ d. IsSourceOf (executable file) text_limit source.now d) }
     // A document that derives from the source's tokens is returned.
-    ensures complete { (d : TheDocument) → IsSourceOf (executable file) source.now d
+    ensures complete { (d : TheDocument) → IsSourceOf (executable file) text_limit source.now d
         → OrMemory result (Ok d) }
     // A fault that is returned is that of the source.
     ensures refused { (number : TheRefusal) (place : ThePlace)
         → result ≡ Err (SyntaxFault.At number place)
-        → IsFaultOf (executable file) source.now (SyntaxFault.At number place) }
+        → IsFaultOf (executable file) text_limit source.now (SyntaxFault.At number place) }
     // The fault of the source is returned.
-    ensures faulty { (fault : TheFault) → IsFaultOf (executable file) source.now fault
+    ensures faulty { (fault : TheFault) → IsFaultOf (executable file) text_limit source.now fault
         → OrMemory result (Err fault) }
 {
     match lex(alloc, source) {
@@ -77,15 +78,18 @@ pub fn parse(alloc: Global, file: FileName, source: &str) -> Result<Document, Sy
     }
 }
 
-/// A source has one document or one fault, and never both.
+/// A source has one document or one fault, and never both, whatever the limit.
 pub fn one_answer()
-    ensures document { (file source : List ℕ) (a b : TheDocument)
-        → IsSourceOf (executable file) source a → IsSourceOf (executable file) source b → a ≡ b }
-    ensures fault { (file source : List ℕ) (f g : TheFault) → IsFaultOf (executable file) source f
-        → IsFaultOf (executable file) source g → f ≡ g }
-    ensures apart { (file source : List ℕ) (d : TheDocument) (f : TheFault)
-        → IsSourceOf (executable file) source d → IsFaultOf (executable file) source f → ⊥ }
-    ensures some { (file source : List ℕ)
-        → ((d : TheDocument) × IsSourceOf (executable file) source d)
-        ⊎ ((f : TheFault) × IsFaultOf (executable file) source f) }
+    ensures document { (limit : ℕ) (file source : List ℕ) (a b : TheDocument)
+        → IsSourceOf (executable file) limit source a
+        → IsSourceOf (executable file) limit source b → a ≡ b }
+    ensures fault { (limit : ℕ) (file source : List ℕ) (f g : TheFault)
+        → IsFaultOf (executable file) limit source f
+        → IsFaultOf (executable file) limit source g → f ≡ g }
+    ensures apart { (limit : ℕ) (file source : List ℕ) (d : TheDocument) (f : TheFault)
+        → IsSourceOf (executable file) limit source d
+        → IsFaultOf (executable file) limit source f → ⊥ }
+    ensures some { (limit : ℕ) (file source : List ℕ)
+        → ((d : TheDocument) × IsSourceOf (executable file) limit source d)
+        ⊎ ((f : TheFault) × IsFaultOf (executable file) limit source f) }
 {}

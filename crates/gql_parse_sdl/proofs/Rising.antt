@@ -40,8 +40,8 @@ rises {before = before} {rest = rest} (token {kind = kind} {n = n} {tokens = tok
     behind_first before first tokens at later u (zero, lt, is) = subst (λ (v : Lexeme). length before ≤ v.place.offset) is (omega (arith, at))
     behind_first before first tokens at later u (suc i, lt, is) = later u (i, omega (arith, lt), is)
 
-pub lexed_rising : (source : List ℕ) (ts : List Lexeme) → IsLexed source ts → Rising ts
-lexed_rising source ts lexed = (rises lexed.tokens_of).rising
+pub lexed_rising : (limit : ℕ) (source : List ℕ) (ts : List Lexeme) → IsLexed limit source ts → Rising ts
+lexed_rising limit source ts lexed = (rises lexed.tokens_of).rising
 
 -- the first of some tokens rise, too
 pub rising_take : (n : ℕ) (ts : List Lexeme) → Rising ts → Rising (take n ts)

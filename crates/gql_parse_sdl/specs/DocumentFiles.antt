@@ -45,11 +45,11 @@ document file = do
 unfoldable pub document_file : List ℕ → Phrase Document
 document_file file = whole (document file)
 
--- the text is a document file of that name, with this tree
-unfoldable pub IsDocumentFile : List ℕ → List ℕ → Document → Type 0
-IsDocumentFile file source document = IsSourceOf (document_file file) source document
+-- the text, of at most so many bytes, is a document file of that name, with this tree
+unfoldable pub IsDocumentFile : ℕ → List ℕ → List ℕ → Document → Type 0
+IsDocumentFile limit file source document = IsSourceOf (document_file file) limit source document
 
--- the text is refused with this fault, as a document file of that name: one of the lexer, or else
--- of the grammar
-unfoldable pub IsDocumentFault : List ℕ → List ℕ → SyntaxFault → Type 0
-IsDocumentFault file source fault = IsFaultOf (document_file file) source fault
+-- the text is refused with this fault, as a document file of that name and of at most so many bytes:
+-- one of the lexer, or else of the grammar
+unfoldable pub IsDocumentFault : ℕ → List ℕ → List ℕ → SyntaxFault → Type 0
+IsDocumentFault limit file source fault = IsFaultOf (document_file file) limit source fault

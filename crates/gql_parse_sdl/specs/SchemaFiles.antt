@@ -29,11 +29,11 @@ document file = do
 unfoldable pub schema_file : List ℕ → Phrase Document
 schema_file file = whole (document file)
 
--- the text is a schema file of that name, with this tree
-unfoldable pub IsSchemaFile : List ℕ → List ℕ → Document → Type 0
-IsSchemaFile file source document = IsSourceOf (schema_file file) source document
+-- the text, of at most so many bytes, is a schema file of that name, with this tree
+unfoldable pub IsSchemaFile : ℕ → List ℕ → List ℕ → Document → Type 0
+IsSchemaFile limit file source document = IsSourceOf (schema_file file) limit source document
 
--- the text is refused with this fault, as a schema file of that name: one of the lexer, or else of
--- the grammar
-unfoldable pub IsSchemaFault : List ℕ → List ℕ → SyntaxFault → Type 0
-IsSchemaFault file source fault = IsFaultOf (schema_file file) source fault
+-- the text is refused with this fault, as a schema file of that name and of at most so many bytes:
+-- one of the lexer, or else of the grammar
+unfoldable pub IsSchemaFault : ℕ → List ℕ → List ℕ → SyntaxFault → Type 0
+IsSchemaFault limit file source fault = IsFaultOf (schema_file file) limit source fault

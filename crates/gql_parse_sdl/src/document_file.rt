@@ -1,6 +1,7 @@
 //! Document files (GraphQL specification, 2.2).
-ghost use Rattle.std.specs.Prelude.{◌≡◌, ◌<◌, ◌⊎◌, ℕ, List, IfOk, OnOk, Ok, Err, Some, [], length, map};
+ghost use Rattle.std.specs.Prelude.{◌≡◌, ◌<◌, ◌≤◌, ◌⊎◌, ℕ, List, IfOk, OnOk, Ok, Err, Some, [], length, map};
 ghost use Rattle.gql_text.specs.Lexeme.{lexeme};
+ghost use Rattle.gql_text.specs.Lexis.{text_limit};
 ghost use Rattle.gql_text.specs.declared.place.Place.{Place as ThePlace};
 ghost use Rattle.gql_ast.specs.declared.definition.Document.{Document as TheDocument};
 ghost use Rattle.gql_grammar.specs.Symbol.{IsRest, Reads, place_of};
@@ -15,7 +16,7 @@ use crate::type_system::type_system;
 use gql_ast::{Definition, Document, FileName, Items, Tree};
 use gql_grammar::{Cursor, ParseError, SyntaxFault, looked_at, placed};
 use gql_parse::definition as executable;
-use gql_text::{Kind, Place, Token, end_place, lex};
+use gql_text::{Kind, Place, TEXT_LIMIT, Token, end_place, lex_within};
 use std::alloc::Global;
 
 /// Whether an operation or a fragment begins with this word.
@@ -117,38 +118,64 @@ fn from_tokens(
 /// The tree of a document file: one or more definitions of any kind, operations and fragments or
 /// those of the type system (GraphQL specification, 2.2). Any other text is refused at the first
 /// place where it cannot go on: by the lexer (101 to 106), or else by the grammar (111, and 112 for
-/// the 101st brace or bracket open at one time).
+/// the 101st brace or bracket open at one time). The text has at most 65,536 bytes.
 pub fn parse_any(alloc: Global, file: FileName, source: &str) -> Result<Document, SyntaxFault>
     // A document that is returned derives from the source's tokens, with at most 100 levels.
-    ensures accepted { IfOk result (spec.IsDocumentFile file source.now) }
+    ensures accepted { IfOk result (spec.IsDocumentFile text_limit file source.now) }
     // A document that derives from the source's tokens is returned.
-    ensures complete { (d : TheDocument) → spec.IsDocumentFile file source.now d
+    ensures complete { (d : TheDocument) → spec.IsDocumentFile text_limit file source.now d
         → OrMemory result (Ok d) }
     // A fault that is returned is that of the source.
     ensures refused { (number : TheRefusal) (place : ThePlace)
         → result ≡ Err (SyntaxFault.At number place)
-        → spec.IsDocumentFault file source.now (SyntaxFault.At number place) }
+        → spec.IsDocumentFault text_limit file source.now (SyntaxFault.At number place) }
     // The fault of the source is returned.
-    ensures faulty { (fault : TheFault) → spec.IsDocumentFault file source.now fault
+    ensures faulty { (fault : TheFault) → spec.IsDocumentFault text_limit file source.now fault
         → OrMemory result (Err fault) }
     // The definitions have the file's name, and their offsets rise.
     ensures placed { IfOk result (λ d. ArePlaced file d.definitions) }
 {
-    match lex(alloc, source) {
+    parse_any_within(alloc, file, source, TEXT_LIMIT)
+}
+
+/// The same for a text of at most so many bytes.
+pub fn parse_any_within(
+    alloc: Global,
+    file: FileName,
+    source: &str,
+    limit: usize,
+) -> Result<Document, SyntaxFault>
+    requires { limit ≤ 16777216 }
+    // A document that is returned derives from the source's tokens, with at most 100 levels.
+    ensures accepted { IfOk result (spec.IsDocumentFile limit file source.now) }
+    // A document that derives from the source's tokens is returned.
+    ensures complete { (d : TheDocument) → spec.IsDocumentFile limit file source.now d
+        → OrMemory result (Ok d) }
+    // A fault that is returned is that of the source.
+    ensures refused { (number : TheRefusal) (place : ThePlace)
+        → result ≡ Err (SyntaxFault.At number place)
+        → spec.IsDocumentFault limit file source.now (SyntaxFault.At number place) }
+    // The fault of the source is returned.
+    ensures faulty { (fault : TheFault) → spec.IsDocumentFault limit file source.now fault
+        → OrMemory result (Err fault) }
+    // The definitions have the file's name, and their offsets rise.
+    ensures placed { IfOk result (λ d. ArePlaced file d.definitions) }
+{
+    match lex_within(alloc, source, limit) {
         Ok(tokens) => from_tokens(alloc, &file, tokens.as_slice(), end_place(source)),
         Err(fault) => Err(SyntaxFault::of(fault)),
     }
 }
 
-/// A source is one document file or has one fault, and never both.
+/// A source is one document file or has one fault, and never both, whatever the limit.
 pub fn one_document_answer()
-    ensures document { (file source : List ℕ) (a b : TheDocument)
-        → spec.IsDocumentFile file source a → spec.IsDocumentFile file source b → a ≡ b }
-    ensures fault { (file source : List ℕ) (f g : TheFault) → spec.IsDocumentFault file source f
-        → spec.IsDocumentFault file source g → f ≡ g }
-    ensures apart { (file source : List ℕ) (d : TheDocument) (f : TheFault)
-        → spec.IsDocumentFile file source d → spec.IsDocumentFault file source f → ⊥ }
-    ensures some { (file source : List ℕ)
-        → ((d : TheDocument) × spec.IsDocumentFile file source d)
-        ⊎ ((f : TheFault) × spec.IsDocumentFault file source f) }
+    ensures document { (limit : ℕ) (file source : List ℕ) (a b : TheDocument)
+        → spec.IsDocumentFile limit file source a → spec.IsDocumentFile limit file source b → a ≡ b }
+    ensures fault { (limit : ℕ) (file source : List ℕ) (f g : TheFault)
+        → spec.IsDocumentFault limit file source f → spec.IsDocumentFault limit file source g → f ≡ g }
+    ensures apart { (limit : ℕ) (file source : List ℕ) (d : TheDocument) (f : TheFault)
+        → spec.IsDocumentFile limit file source d → spec.IsDocumentFault limit file source f → ⊥ }
+    ensures some { (limit : ℕ) (file source : List ℕ)
+        → ((d : TheDocument) × spec.IsDocumentFile limit file source d)
+        ⊎ ((f : TheFault) × spec.IsDocumentFault limit file source f) }
 {}

@@ -17,5 +17,5 @@ mod type_system;
 mod types;
 mod unions;
 
-pub use document_file::{one_document_answer, parse_any};
-pub use schema_file::{one_answer, parse_sdl};
+pub use document_file::{one_document_answer, parse_any, parse_any_within};
+pub use schema_file::{one_answer, parse_sdl, parse_sdl_within};

@@ -1,6 +1,7 @@
 //! Schema files (GraphQL specification, 3).
-ghost use Rattle.std.specs.Prelude.{◌≡◌, ◌<◌, ◌⊎◌, ℕ, List, IfOk, OnOk, Ok, Err, [], length, map};
+ghost use Rattle.std.specs.Prelude.{◌≡◌, ◌<◌, ◌≤◌, ◌⊎◌, ℕ, List, IfOk, OnOk, Ok, Err, [], length, map};
 ghost use Rattle.gql_text.specs.Lexeme.{lexeme};
+ghost use Rattle.gql_text.specs.Lexis.{text_limit};
 ghost use Rattle.gql_text.specs.declared.place.Place.{Place as ThePlace};
 ghost use Rattle.gql_ast.specs.declared.definition.Document.{Document as TheDocument};
 ghost use Rattle.gql_grammar.specs.Symbol.{IsRest, Reads};
@@ -12,7 +13,7 @@ ghost use Rattle.gql_parse_sdl.specs.SchemaFiles as spec;
 use crate::type_system::type_system;
 use gql_ast::{Definition, Document, FileName, Items};
 use gql_grammar::{Cursor, ParseError, SyntaxFault, looked_at, placed};
-use gql_text::{Kind, Place, Token, end_place, lex};
+use gql_text::{Kind, Place, TEXT_LIMIT, Token, end_place, lex_within};
 use std::alloc::Global;
 
 #[tactic(auto, using(gql_grammar::proofs::Rests::rests), unfolding(crate::specs::SchemaFiles::definition))]
@@ -79,36 +80,60 @@ fn from_tokens(
 /// The tree of a schema file: one or more definitions and extensions of the type system (GraphQL
 /// specification, 3). Any other text is refused at the first place where it cannot go on: by the
 /// lexer (101 to 106), or else by the grammar (111, and 112 for the 101st brace or bracket open at
-/// one time).
+/// one time). The text has at most 65,536 bytes.
 pub fn parse_sdl(alloc: Global, file: FileName, source: &str) -> Result<Document, SyntaxFault>
     // A document that is returned derives from the source's tokens, with at most 100 levels.
-    ensures accepted { IfOk result (spec.IsSchemaFile file source.now) }
+    ensures accepted { IfOk result (spec.IsSchemaFile text_limit file source.now) }
     // A document that derives from the source's tokens is returned.
-    ensures complete { (d : TheDocument) → spec.IsSchemaFile file source.now d
+    ensures complete { (d : TheDocument) → spec.IsSchemaFile text_limit file source.now d
         → OrMemory result (Ok d) }
     // A fault that is returned is that of the source.
     ensures refused { (number : TheRefusal) (place : ThePlace)
         → result ≡ Err (SyntaxFault.At number place)
-        → spec.IsSchemaFault file source.now (SyntaxFault.At number place) }
+        → spec.IsSchemaFault text_limit file source.now (SyntaxFault.At number place) }
     // The fault of the source is returned.
-    ensures faulty { (fault : TheFault) → spec.IsSchemaFault file source.now fault
+    ensures faulty { (fault : TheFault) → spec.IsSchemaFault text_limit file source.now fault
         → OrMemory result (Err fault) }
 {
-    match lex(alloc, source) {
+    parse_sdl_within(alloc, file, source, TEXT_LIMIT)
+}
+
+/// The same for a text of at most so many bytes.
+pub fn parse_sdl_within(
+    alloc: Global,
+    file: FileName,
+    source: &str,
+    limit: usize,
+) -> Result<Document, SyntaxFault>
+    requires { limit ≤ 16777216 }
+    // A document that is returned derives from the source's tokens, with at most 100 levels.
+    ensures accepted { IfOk result (spec.IsSchemaFile limit file source.now) }
+    // A document that derives from the source's tokens is returned.
+    ensures complete { (d : TheDocument) → spec.IsSchemaFile limit file source.now d
+        → OrMemory result (Ok d) }
+    // A fault that is returned is that of the source.
+    ensures refused { (number : TheRefusal) (place : ThePlace)
+        → result ≡ Err (SyntaxFault.At number place)
+        → spec.IsSchemaFault limit file source.now (SyntaxFault.At number place) }
+    // The fault of the source is returned.
+    ensures faulty { (fault : TheFault) → spec.IsSchemaFault limit file source.now fault
+        → OrMemory result (Err fault) }
+{
+    match lex_within(alloc, source, limit) {
         Ok(tokens) => from_tokens(alloc, &file, tokens.as_slice(), end_place(source)),
         Err(fault) => Err(SyntaxFault::of(fault)),
     }
 }
 
-/// A source is one schema file or has one fault, and never both.
+/// A source is one schema file or has one fault, and never both, whatever the limit.
 pub fn one_answer()
-    ensures document { (file source : List ℕ) (a b : TheDocument) → spec.IsSchemaFile file source a
-        → spec.IsSchemaFile file source b → a ≡ b }
-    ensures fault { (file source : List ℕ) (f g : TheFault) → spec.IsSchemaFault file source f
-        → spec.IsSchemaFault file source g → f ≡ g }
-    ensures apart { (file source : List ℕ) (d : TheDocument) (f : TheFault)
-        → spec.IsSchemaFile file source d → spec.IsSchemaFault file source f → ⊥ }
-    ensures some { (file source : List ℕ)
-        → ((d : TheDocument) × spec.IsSchemaFile file source d)
-        ⊎ ((f : TheFault) × spec.IsSchemaFault file source f) }
+    ensures document { (limit : ℕ) (file source : List ℕ) (a b : TheDocument)
+        → spec.IsSchemaFile limit file source a → spec.IsSchemaFile limit file source b → a ≡ b }
+    ensures fault { (limit : ℕ) (file source : List ℕ) (f g : TheFault)
+        → spec.IsSchemaFault limit file source f → spec.IsSchemaFault limit file source g → f ≡ g }
+    ensures apart { (limit : ℕ) (file source : List ℕ) (d : TheDocument) (f : TheFault)
+        → spec.IsSchemaFile limit file source d → spec.IsSchemaFault limit file source f → ⊥ }
+    ensures some { (limit : ℕ) (file source : List ℕ)
+        → ((d : TheDocument) × spec.IsSchemaFile limit file source d)
+        ⊎ ((f : TheFault) × spec.IsSchemaFault limit file source f) }
 {}

@@ -273,7 +273,7 @@ module _ (c : Bool) where
 
 -- a literal that is found in a text
 pub found_written : FoundIsWritten
-found_written c source x f =
+found_written limit c source x f =
     let own = tokens_own f.lexed.tokens_of in
     let part = each_front IsOwn f.part f.later
     (each_back IsOwn f.earlier (f.part ++ f.later)

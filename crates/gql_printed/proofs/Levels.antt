@@ -63,8 +63,8 @@ back_opens n [] b = omega arith
 back_opens n (t ∷ a) b = omega (arith, back_opens (shift t.kind n) a b)
 
 pub levels_kept : LevelsAreKept
-levels_kept c source x f t =
-    let parsed = found_written c (literal_text x) t.parsed (record {
+levels_kept limit most c source x f t =
+    let parsed = found_written most c (literal_text x) t.parsed (record {
       tokens = t.tokens;
       lexed = t.lexed;
       earlier = [];
@@ -75,7 +75,7 @@ levels_kept c source x f t =
       derived = t.derived;
     }) in
     let same : nesting t.parsed ≡ nesting x = sym (unplaced parsed) ∙ ap nesting t.same_value
-    ∙ unplaced (found_written c source x f) in
+    ∙ unplaced (found_written limit c source x f) in
     let m : ℕ = level 0 f.earlier in
     let text = opens_value c t.tokens [] t.parsed t.derived 0 in
     let part = opens_value c f.part f.rest x f.derived m in

@@ -8,8 +8,8 @@ use Rattle.gql_printed.proofs.Found.{same_value}
 use Rattle.gql_printed.proofs.Printed.{written_parsed}
 
 pub only_same_value : OnlySameValue
-only_same_value c x h tokens parsed lexed derived =
-    let t = written_parsed c x h lexed.short in
+only_same_value limit c x h tokens parsed lexed derived =
+    let t = written_parsed limit c x h lexed.short in
     let same : tokens ≡ t.tokens = lexed_one lexed t.lexed in
     let first = (value c).only tokens (Ok (parsed, [])) derived in
     let second = (value c).only t.tokens (Ok (t.parsed, [])) t.derived in

@@ -413,7 +413,7 @@ mutual
 
 pub written_parsed : WrittenIsParsed
 unfolding Reads
-written_parsed c x h short =
+written_parsed limit c x h short =
     let r = read h [] [] [] refl at_end in
     record {
       tokens = r.tokens;

@@ -5,7 +5,9 @@ use Rattle.gql_ast.specs.declared.definition.Definition.{Definition}
 use Rattle.gql_ast.specs.declared.definition.Tree.{Tree}
 use Rattle.gql_facts.specs.declared.fact.FragmentFact.{FragmentFact}
 use Rattle.gql_facts.specs.declared.key.Key.{Key}
-use Rattle.gql_facts.specs.OwnReads.{tree_reads}
+use Rattle.gql_facts.specs.Floats.{float_read}
+use Rattle.gql_facts.specs.ListMembers.{Contains-cases, Contains-here, Contains-there}
+use Rattle.gql_facts.specs.OwnReads.{executable_reads, fragment_reads, own_reads, tree_reads}
 use Rattle.gql_facts.specs.Reads.{Reaches, Reads, own, of_fragment, of_type, types_in}
 use Rattle.gql_facts.specs.Worlds.{Facts}
 use Rattle.gql_facts.proofs.Agreement.{tree_same}
@@ -33,12 +35,15 @@ module _ (F : Facts) (d : Definition) where
   own_read (by_type {j} {k} {n} o c h) = of_type (own_read o) c h
 
   pub fragment_read : {g : FragmentFact} {k : Key} → Reaches F d g → Own F (tree_of g) k → Reads F d k
-  fragment_read {g} {k} r (by_node c) = of_fragment r c
+  fragment_read {g} {k} r (by_node c) = elim (Contains-cases k float_read (fragment_reads F g.fragment) c) [
+    | inl e ↦ own (subst (Contains (own_reads F d)) (sym e) (Contains-here float_read (executable_reads F d.tree)))
+    | inr h ↦ of_fragment r h
+  ]
   fragment_read {g} {k} r (by_type o c h) = of_type (fragment_read r o) c h
 
   pub split : {k : Key} → Reads F d k → Own F d.tree k ⊎ ((g : FragmentFact) × Reaches F d g × Own F (tree_of g) k)
   split (own {k} c) = inl (by_node c)
-  split (of_fragment {g} {k} r c) = inr (g, r, by_node c)
+  split (of_fragment {g} {k} r c) = inr (g, r, by_node (Contains-there k float_read (fragment_reads F g.fragment) c))
   split (of_type {j} {k} {t} r c h) = elim (split r) [
     | inl o ↦ inl (by_type o c h)
     | inr q ↦ inr (q.0, q.1, by_type q.2 c h)

@@ -11,8 +11,10 @@ use Rattle.gql_facts.specs.declared.fact.Fact.TheVariants as fact
 use Rattle.gql_facts.specs.declared.fact.FragmentFact.{FragmentFact}
 use Rattle.gql_facts.specs.declared.key.Key.{Key}
 use Rattle.gql_facts.specs.declared.key.Key.TheVariants as key
-use Rattle.gql_facts.specs.ListMembers.{Contains-nil, Contains-map, Contains-flat_map, Contains-flat_map_from}
+use Rattle.gql_facts.specs.Floats.{float_read}
+use Rattle.gql_facts.specs.ListMembers.{Contains-nil, Contains-there, Contains-map, Contains-flat_map, Contains-flat_map_from}
 use Rattle.gql_facts.specs.Members.{Lists}
+use Rattle.gql_facts.specs.OwnReads.{fragment_reads, tree_reads}
 use Rattle.gql_facts.specs.Reads.{Reads, Reaches, by_definition, by_fragment}
 use Rattle.gql_facts.specs.Worlds.{Facts, IsWorld}
 use Rattle.gql_reads.specs.Leading.{AreLed}
@@ -79,12 +81,16 @@ module _ (F : Facts) (names : List (List ℕ)) (world : IsWorld F names) (d : De
     part_for : (g : FragmentFact) → Contains (members_of parts) g → (p : Kept) × Contains parts p × (p.fragment ≡ g)
     part_for g c = Contains-map_from (λ (p : Kept). p.fragment) parts g c
 
+    -- what a fragment reads is among the reads of its tree
+    in_tree : (f : FragmentFact) (n : List ℕ) → Contains (fragment_reads F f.fragment) (key.FragmentOf n) → Contains (tree_reads F (tree_of f)) (key.FragmentOf n)
+    in_tree f n c = Contains-there (key.FragmentOf n) float_read (fragment_reads F f.fragment) c
+
     member_reached : {g : FragmentFact} → Reaches F d g → Contains (members_of parts) g
     member_reached (by_definition {n} {g} c e) = w.own_met g (node_told F d.tree own n g is_own c e)
     member_reached (by_fragment {n} {f} {g} r c e) =
         let p = part_for f (member_reached r) in
         let seen : IsRecord F (tree_of f) p.0.seen = subst (λ h. IsRecord F (tree_of h) p.0.seen) p.2 (met.each p.0 p.1).seen in
-        all_followed p.0 g p.1 (node_told F (tree_of f) p.0.seen n g seen c e)
+        all_followed p.0 g p.1 (node_told F (tree_of f) p.0.seen n g seen (in_tree f n c) e)
 
     pub all_members : Lists (members_of parts) (Reaches F d)
     all_members = record {
@@ -133,7 +139,7 @@ module _ (F : Facts) (names : List (List ℕ)) (world : IsWorld F names) (d : De
     told_by (by_fragment {n} {f} {g} r c e) =
         let p = part_for f (member_reached r) in
         let seen : IsRecord F (tree_of f) p.0.seen = subst (λ h. IsRecord F (tree_of h) p.0.seen) p.2 (met.each p.0 p.1).seen in
-        let t = node_told F (tree_of f) p.0.seen n g seen c e in (
+        let t = node_told F (tree_of f) p.0.seen n g seen (in_tree f n c) e in (
           t.0.observation,
           Contains-append_right (observed_in own) (seen_in parts) t.0.observation
               (Contains-flat_map (λ (q : Kept). observed_in q.seen) parts p.0 t.0.observation p.1 (told_observed p.0.seen g t)),

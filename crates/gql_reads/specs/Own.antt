@@ -1,4 +1,4 @@
--- What a definition reads by its own nodes, without the fragments that it spreads.
+-- What a definition reads by itself, without the fragments that it spreads.
 use Rattle.std.specs.Prelude.{◌≡◌, List, Contains, ℕ}
 use Rattle.gql_ast.specs.declared.definition.Tree.{Tree}
 use Rattle.gql_ast.specs.declared.definition.Tree.TheVariants as tree
@@ -8,7 +8,7 @@ use Rattle.gql_facts.specs.OwnReads.{tree_reads}
 use Rattle.gql_facts.specs.Reads.{types_in, type_reads}
 use Rattle.gql_facts.specs.Worlds.{Facts}
 
--- The own reads of the tree of a definition: the keys that its nodes read, and those about each
+-- The own reads of the tree of a definition: the keys that it reads by itself, and those about each
 -- type that is named in the answer to an own read.
 pub data Own (facts : Facts) (t : Tree) : Key → Type 0 where
   by_node : {k : Key} → Contains (tree_reads facts t) k → Own facts t k

@@ -7,8 +7,8 @@ ghost use Rattle.gql_facts.specs.declared.fact.FragmentFact.{FragmentFact};
 ghost use Rattle.gql_facts.specs.declared.key.Key.{Key};
 ghost use Rattle.gql_reads.specs.Own.{Own, tree_of};
 
-/// What a definition reads is what it reads by its own nodes, and what each fragment that it
-/// reaches reads by its own.
+/// What a definition reads is what it reads by itself, and what each fragment that it reaches reads
+/// by itself.
 pub fn reads_are_shared()
     ensures { (facts : Facts) → (d : Definition) → (k : Key) → Reads facts d k
         ↔ (Own facts d.tree k ⊎ ((g : FragmentFact) × Reaches facts d g × Own facts (tree_of g) k)) }

@@ -35,7 +35,7 @@ impl Drop for TypeAnswers {
     }
 }
 
-/// What was observed of a key that the nodes of a definition read, and of each type that its answer
+/// What was observed of a key that a definition reads by itself, and of each type that its answer
 /// leads to: those that the answer names, and those that the fields of input objects among them name,
 /// again and again. Definitions that read the key share it.
 pub struct Answer {

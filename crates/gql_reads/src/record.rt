@@ -15,7 +15,7 @@ use indexmap::IndexMap;
 use std::alloc::{AllocError, Global};
 use std::marker::Model;
 
-/// The answers to what the nodes of a definition or fragment read, each with the types that it leads
+/// The answers to what a definition or fragment reads by itself, each with the types that it leads
 /// to. Contracts see the list of them.
 pub struct Record {
     answers: Vec<Shared<Answer>>,

@@ -1,4 +1,4 @@
-//! The keys that the nodes of a definition read, asked with their answers kept.
+//! The keys that a definition reads by itself, asked with their answers kept.
 ghost use Rattle.std.specs.Prelude.{◌≡◌, IfOk, OnOk, flat_map};
 ghost use Rattle.indexmap.specs.IndexMap.{keys};
 ghost use Rattle.gql_facts.specs.Nodes as nodes;
@@ -8,10 +8,10 @@ ghost use Rattle.gql_reads.specs.Closings.{AreRight};
 
 use crate::asking::{ask, note};
 use gql_ast::{
-    Directive, Field, Fragment, InlineFragment, Name, Operation, OperationKind, Selection, Spread,
-    Text, Tree, VariableDefinition,
+    Directive, Field, Fragment, InlineFragment, Name, Operation, Selection, Spread, Text, Tree,
+    VariableDefinition,
 };
-use gql_facts::{Fact, Key, World};
+use gql_facts::{Fact, Key, World, float_read};
 use gql_types::WrittenType;
 use indexmap::IndexMap;
 use std::alloc::{AllocError, Global};
@@ -307,16 +307,6 @@ fn scan_set<W: World>(
     Ok(())
 }
 
-/// The name of the type that an operation selects from, by the answer for its kind.
-fn selected_root(kind: OperationKind, fact: &Fact) -> Result<Option<Text>, AllocError>
-    ensures { IfOk result (λ t. t ≡ spec.selected_by kind fact.now) }
-{
-    match kind {
-        OperationKind::Subscription => Ok(None),
-        _ => root_type(fact),
-    }
-}
-
 fn scan_operation<W: World>(
     alloc: Global,
     world: &mut W,
@@ -332,7 +322,7 @@ fn scan_operation<W: World>(
         ≡ add_keys (keys answers.old) (spec.operation_reads (W.facts world.old) operation.now)) }
 {
     let fact = ask(alloc, world, Key::RootOf(operation.kind), answers)?;
-    let root = selected_root(operation.kind, &fact)?;
+    let root = root_type(&fact)?;
     let parent = enter(alloc, world, root, answers)?;
     note_directives(alloc, world, operation.directives.as_slice(), answers)?;
     note_variables(alloc, world, operation.variables.as_slice(), answers)?;
@@ -373,7 +363,7 @@ fn scan_fragment<W: World>(
     Ok(())
 }
 
-/// Asks the keys that the nodes of a definition read.
+/// Asks the keys that a definition reads by itself.
 pub fn scan_tree<W: World>(
     alloc: Global,
     world: &mut W,
@@ -388,6 +378,7 @@ pub fn scan_tree<W: World>(
     ensures asked { OnOk result (keys answers.new
         ≡ add_keys (keys answers.old) (spec.tree_reads (W.facts world.old) tree.now)) }
 {
+    note(alloc, world, float_read(alloc)?, answers)?;
     match tree {
         Tree::Operation(operation) => scan_operation(alloc, world, operation.get(), answers)?,
         Tree::Fragment(fragment) => scan_fragment(alloc, world, fragment.get(), answers)?,

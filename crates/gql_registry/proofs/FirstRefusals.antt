@@ -15,8 +15,8 @@ use Rattle.gql_registry.specs.DataBodies.{IsDataText}
 use Rattle.gql_registry.specs.Checks.{IsExpected}
 use Rattle.gql_registry.specs.Edits.{Edit, put, remove, put_data, Fails, stale, spent, too_long, not_text, data_not_text, bad_data, syntax, no_file, files_full, rank, IsFirstRefusal, IsAccepted, Makes}
 use Rattle.gql_registry.specs.Refusals.{refusal_of}
-use Rattle.gql_registry.specs.Sides.{IsFaultOn, files_on}
-use Rattle.gql_registry.specs.State.{State, last_revision, file_limit, most_files}
+use Rattle.gql_registry.specs.Sides.{IsFaultOn, files_on, limit_on}
+use Rattle.gql_registry.specs.State.{State, last_revision, profile_of}
 use Rattle.gql_registry.specs.declared.refusal.Refusal.{Refusal}
 use Rattle.gql_registry.specs.declared.refusal.Refusal.TheVariants as refusal
 use Rattle.gql_registry.specs.declared.registry.Edited.{Edited}
@@ -55,11 +55,11 @@ after_spent s _ _ _ same left (files_full none many) = omega arith
 -- ---- a file that is put
 
 -- then 203
-pub first_too_long : (s : State) (expected : Option ℕ) (side : FileSide) (name bytes : List ℕ) → IsExpected s expected → s.revision < last_revision → file_limit < length bytes
+pub first_too_long : (s : State) (expected : Option ℕ) (side : FileSide) (name bytes : List ℕ) → IsExpected s expected → s.revision < last_revision → limit_on (profile_of s) side < length bytes
     → IsFirstRefusal s expected (put side name bytes) refusal.TooLong
 first_too_long s expected side name bytes same left long = record { fails = too_long long; first = λ other h. after_spent s expected (put side name bytes) other same left h }
 
-after_too_long : (s : State) (expected : Option ℕ) (side : FileSide) (name bytes : List ℕ) (r : Refusal) → IsExpected s expected → s.revision < last_revision → length bytes ≤ file_limit
+after_too_long : (s : State) (expected : Option ℕ) (side : FileSide) (name bytes : List ℕ) (r : Refusal) → IsExpected s expected → s.revision < last_revision → length bytes ≤ limit_on (profile_of s) side
     → Fails s expected (put side name bytes) r → 3 ≤ rank r
 after_too_long s _ side name bytes _ same left short (stale apart) = absurd (apart same)
 after_too_long s _ side name bytes _ same left short (spent is) = absurd (omega arith)
@@ -69,11 +69,11 @@ after_too_long s _ side name bytes _ same left short (syntax bad) = omega arith
 after_too_long s _ side name bytes _ same left short (files_full none many) = omega arith
 
 -- then 202
-pub first_not_text : (s : State) (expected : Option ℕ) (side : FileSide) (name bytes : List ℕ) → IsExpected s expected → s.revision < last_revision → length bytes ≤ file_limit → (IsUtf8 bytes → ⊥)
+pub first_not_text : (s : State) (expected : Option ℕ) (side : FileSide) (name bytes : List ℕ) → IsExpected s expected → s.revision < last_revision → length bytes ≤ limit_on (profile_of s) side → (IsUtf8 bytes → ⊥)
     → IsFirstRefusal s expected (put side name bytes) refusal.NotText
 first_not_text s expected side name bytes same left short bad = record { fails = not_text bad; first = λ other h. after_too_long s expected side name bytes other same left short h }
 
-after_not_text : (s : State) (expected : Option ℕ) (side : FileSide) (name bytes : List ℕ) (r : Refusal) → IsExpected s expected → s.revision < last_revision → length bytes ≤ file_limit → IsUtf8 bytes
+after_not_text : (s : State) (expected : Option ℕ) (side : FileSide) (name bytes : List ℕ) (r : Refusal) → IsExpected s expected → s.revision < last_revision → length bytes ≤ limit_on (profile_of s) side → IsUtf8 bytes
     → Fails s expected (put side name bytes) r → 4 ≤ rank r
 after_not_text s _ side name bytes _ same left short text (stale apart) = absurd (apart same)
 after_not_text s _ side name bytes _ same left short text (spent is) = absurd (omega arith)
@@ -83,7 +83,7 @@ after_not_text s _ side name bytes _ same left short text (syntax bad) = omega a
 after_not_text s _ side name bytes _ same left short text (files_full none many) = omega arith
 
 -- then 201
-pub first_syntax : (s : State) (expected : Option ℕ) (side : FileSide) (name bytes : List ℕ) (f : SyntaxFault) → IsExpected s expected → s.revision < last_revision → length bytes ≤ file_limit → IsUtf8 bytes
+pub first_syntax : (s : State) (expected : Option ℕ) (side : FileSide) (name bytes : List ℕ) (f : SyntaxFault) → IsExpected s expected → s.revision < last_revision → length bytes ≤ limit_on (profile_of s) side → IsUtf8 bytes
     → ((number : SyntaxRefusal) (place : Place) → f ≡ At number place → IsFaultOn side name bytes (At number place)) → Makes s expected (put side name bytes) (Err (refusal_of f)) s
 first_syntax s expected side name bytes (fault.At number place) same left short text bad =
     (record { fails = syntax (bad number place refl); first = λ other h. after_not_text s expected side name bytes other same left short text h }, refl)
@@ -91,13 +91,13 @@ first_syntax s expected side name bytes fault.Memory same left short text bad = 
 
 -- the fault of a text is the answer, or `Memory`
 pub answers_syntax : (s : State) (expected : Option ℕ) (side : FileSide) (name bytes : List ℕ) (f : SyntaxFault) (r : Result Edited Refusal) → IsErrAnd r (λ e. e ≡ refusal_of f)
-    → IsExpected s expected → s.revision < last_revision → length bytes ≤ file_limit → IsUtf8 bytes
+    → IsExpected s expected → s.revision < last_revision → length bytes ≤ limit_on (profile_of s) side → IsUtf8 bytes
     → ((number : SyntaxRefusal) (place : Place) → f ≡ At number place → IsFaultOn side name bytes (At number place)) → Makes s expected (put side name bytes) r s
 answers_syntax s expected side name bytes f (Ok edited) is same left short text bad = absurd is
 answers_syntax s expected side name bytes f (Err e) is same left short text bad =
     subst (λ q. Makes s expected (put side name bytes) (Err q) s) (sym is) (first_syntax s expected side name bytes f same left short text bad)
 
-after_syntax : (s : State) (expected : Option ℕ) (side : FileSide) (name bytes : List ℕ) (r : Refusal) → IsExpected s expected → s.revision < last_revision → length bytes ≤ file_limit → IsUtf8 bytes
+after_syntax : (s : State) (expected : Option ℕ) (side : FileSide) (name bytes : List ℕ) (r : Refusal) → IsExpected s expected → s.revision < last_revision → length bytes ≤ limit_on (profile_of s) side → IsUtf8 bytes
     → ((f : SyntaxFault) → IsFaultOn side name bytes f → ⊥) → Fails s expected (put side name bytes) r → 6 ≤ rank r
 after_syntax s _ side name bytes _ same left short text read (stale apart) = absurd (apart same)
 after_syntax s _ side name bytes _ same left short text read (spent is) = absurd (omega arith)
@@ -107,15 +107,15 @@ after_syntax s _ side name bytes _ same left short text read (syntax bad) = absu
 after_syntax s _ side name bytes _ same left short text read (files_full none many) = omega arith
 
 -- then 205
-pub first_files_full : (s : State) (expected : Option ℕ) (side : FileSide) (name bytes : List ℕ) → IsExpected s expected → s.revision < last_revision → length bytes ≤ file_limit → IsUtf8 bytes
-    → ((f : SyntaxFault) → IsFaultOn side name bytes f → ⊥) → file_named (files_on side s.files) name ≡ None → most_files ≤ length (files_on side s.files)
+pub first_files_full : (s : State) (expected : Option ℕ) (side : FileSide) (name bytes : List ℕ) → IsExpected s expected → s.revision < last_revision → length bytes ≤ limit_on (profile_of s) side → IsUtf8 bytes
+    → ((f : SyntaxFault) → IsFaultOn side name bytes f → ⊥) → file_named (files_on side s.files) name ≡ None → (profile_of s).limits.files ≤ length (files_on side s.files)
     → IsFirstRefusal s expected (put side name bytes) refusal.FilesFull
 first_files_full s expected side name bytes same left short text read none many =
     record { fails = files_full none many; first = λ other h. after_syntax s expected side name bytes other same left short text read h }
 
 -- there is room for a file of the name
-pub put_accepted : (s : State) (expected : Option ℕ) (side : FileSide) (name bytes : List ℕ) → IsExpected s expected → s.revision < last_revision → length bytes ≤ file_limit → IsUtf8 bytes
-    → ((f : SyntaxFault) → IsFaultOn side name bytes f → ⊥) → (file_named (files_on side s.files) name ≡ None → most_files ≤ length (files_on side s.files) → ⊥) → IsAccepted s expected (put side name bytes)
+pub put_accepted : (s : State) (expected : Option ℕ) (side : FileSide) (name bytes : List ℕ) → IsExpected s expected → s.revision < last_revision → length bytes ≤ limit_on (profile_of s) side → IsUtf8 bytes
+    → ((f : SyntaxFault) → IsFaultOn side name bytes f → ⊥) → (file_named (files_on side s.files) name ≡ None → (profile_of s).limits.files ≤ length (files_on side s.files) → ⊥) → IsAccepted s expected (put side name bytes)
 put_accepted s _ side name bytes same left short text read room _ (stale apart) = apart same
 put_accepted s _ side name bytes same left short text read room _ (spent is) = omega arith
 put_accepted s _ side name bytes same left short text read room _ (too_long long) = omega arith
@@ -186,14 +186,15 @@ makes_refusal s t expected e refusal.BadData h same = (h, same)
 makes_refusal s t expected e refusal.NoOperation h same = (h, same)
 makes_refusal s t expected e (refusal.Faulty faults) h same = (h, same)
 makes_refusal s t expected e refusal.TooLarge h same = (h, same)
+makes_refusal s t expected e refusal.NotRun h same = (h, same)
 makes_refusal s t expected e refusal.Spent h same = (h, same)
 
 -- a name without room is new, and the side has as many files as it may have
-pub no_room : (held : Option Document) (count : ℕ) → (is_some held || nat_lt count 256) ≡ false → (held ≡ None) × (most_files ≤ count)
-no_room (Some d) count full = absurd (cc full)
-no_room None count full = (refl, grind (arith, nat_tests))
+pub no_room : (held : Option Document) (count most : ℕ) → (is_some held || nat_lt count most) ≡ false → (held ≡ None) × (most ≤ count)
+no_room (Some d) count most full = absurd (cc full)
+no_room None count most full = (refl, grind (arith, nat_tests))
 
 -- and a name with room is not such a name
-pub room : (held : Option Document) (count : ℕ) → (is_some held || nat_lt count 256) ≡ true → held ≡ None → most_files ≤ count → ⊥
-room (Some d) count has none many = absurd (cc none)
-room None count has none many = grind (arith, nat_tests)
+pub room : (held : Option Document) (count most : ℕ) → (is_some held || nat_lt count most) ≡ true → held ≡ None → most ≤ count → ⊥
+room (Some d) count most has none many = absurd (cc none)
+room None count most has none many = grind (arith, nat_tests)

@@ -2,6 +2,7 @@
 use Rattle.std.proofs.Common.{◌≡◌, List, [], None, refl, sym, subst, Contains}
 use Rattle.gql_ast.specs.declared.definition.Definition.{Definition}
 use Rattle.gql_ast.specs.declared.files.Files.{Files}
+use Rattle.gql_ast.specs.declared.profile.Profile.{Profile}
 use Rattle.gql_facts.specs.Facts.{fact_of}
 use Rattle.gql_facts.specs.ListMembers.{Contains-nil}
 use Rattle.gql_facts.specs.Worlds.{Facts}
@@ -41,10 +42,10 @@ pub no_pairs : (facts : Facts) → AllHold facts []
 no_pairs facts n m k (group, there, is) = absurd (Contains-nil group there)
 
 -- without files nothing is to be kept
-pub none_kept : (shelf : Shelved) → shelf ≡ nothing_shelved → IsKept (record { schema = []; documents = [] }) None shelf
-none_kept shelf is = rw is (record {
+pub none_kept : (profile : Profile) (shelf : Shelved) → shelf ≡ nothing_shelved → IsKept (record { profile = profile; schema = []; documents = [] }) None shelf
+none_kept profile shelf is = rw is (record {
   placed = λ file h. absurd (Contains-nil file h);
   known = tt;
   current = record { each = refl; holds = λ v h. absurd (Contains-nil v h); keys = λ v h. absurd (Contains-nil v h) };
-  pairs = no_pairs (fact_of (record { schema = []; documents = [] }));
+  pairs = no_pairs (fact_of (record { profile = profile; schema = []; documents = [] }));
 })

@@ -5,6 +5,7 @@ pub mod OneCall
 pub mod FilesByName
 pub mod FirstRefusals
 pub mod HoldsAfter
+pub mod KeptProfile
 pub mod Knowing
 pub mod Loads
 pub mod Mapped

@@ -57,6 +57,7 @@ refused_at s t edits at e refusal.BadData all there h = record { left = t; edit 
 refused_at s t edits at e refusal.NoOperation all there h = record { left = t; edit = e; before = all; there = there; first = h.0 }
 refused_at s t edits at e (refusal.Faulty faults) all there h = record { left = t; edit = e; before = all; there = there; first = h.0 }
 refused_at s t edits at e refusal.TooLarge all there h = record { left = t; edit = e; before = all; there = there; first = h.0 }
+refused_at s t edits at e refusal.NotRun all there h = record { left = t; edit = e; before = all; there = there; first = h.0 }
 refused_at s t edits at e refusal.Spent all there h = record { left = t; edit = e; before = all; there = there; first = h.0 }
 
 -- the put at an index is refused, after those before it
@@ -135,6 +136,7 @@ idle_load s shelf edits refusal.BadData m = refl
 idle_load s shelf edits refusal.NoOperation m = refl
 idle_load s shelf edits (refusal.Faulty faults) m = refl
 idle_load s shelf edits refusal.TooLarge m = refl
+idle_load s shelf edits refusal.NotRun m = refl
 idle_load s shelf edits refusal.Spent m = refl
 
 pub refused_load : (s : State) (edits : List Edit) (r : Result Edited PutRefusal) (q : PutRefusal) → IsErrAnd r (λ x. x ≡ q) → IsLoadRefusal s edits q.at q.refusal → Loads s edits r s

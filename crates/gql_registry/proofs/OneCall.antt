@@ -1,5 +1,5 @@
 -- A call has one answer.
-use Rattle.std.proofs.Common.{◌≡◌, ◌<◌, ◌≤◌, List, [], ◌∷◌, Option, Some, None, Result, Ok, Err, refl, sym, ap, subst, ◌∙◌, ℕ, arith}
+use Rattle.std.proofs.Common.{◌≡◌, ◌<◌, ◌≤◌, List, [], ◌∷◌, Option, Some, None, Result, Ok, Err, refl, sym, ap, subst, ◌∙◌, ℕ, arith, true, false}
 use Rattle.gql_ast.specs.declared.definition.Definition.{Definition}
 use Rattle.gql_ast.specs.declared.definition.Tree.TheVariants as tree
 use Rattle.gql_ast.specs.declared.executable.Operation.{Operation}
@@ -10,8 +10,9 @@ use Rattle.gql_steps.specs.Requests.{Executes, Response, most_values, request_of
 use Rattle.gql_facts.specs.ListMembers.{Contains-here}
 use Rattle.gql_registry.specs.Chosen.{chosen}
 use Rattle.gql_report.specs.Laws.{OneOrder}
-use Rattle.gql_registry.specs.Calls.{AreAgainst, Answers, CallOutcome, outcome_of, IsResponse, StandsAgainst, no_operation, faulty, too_large, served, memory}
+use Rattle.gql_registry.specs.Calls.{AreAgainst, Answers, CallOutcome, outcome_of, IsResponse, IsServed, StandsAgainst, no_operation, faulty, not_run, too_large, served, memory}
 use Rattle.gql_registry.specs.Laws.{OneAnswer}
+use Rattle.gql_registry.specs.Runs.{is_run}
 use Rattle.gql_registry.specs.declared.refusal.Refusal.{Refusal}
 use Rattle.gql_registry.specs.declared.refusal.Refusal.TheVariants as refusal
 use Rattle.serde_json.specs.Data.{Data}
@@ -35,11 +36,20 @@ module _ (responses : OneResponse) (orders : OneOrder) (files : Files) (stored :
       k.executes
 
   -- a fault that stands against an operation which is served
-  no_faults : (d : Definition) (faults : List Fault) (p : Response) → chosen files.documents name ≡ Some d → AreAgainst files d faults → (faults ≡ [] → ⊥) → IsResponse files stored name variables p → ⊥
-  no_faults d [] p called are some h = some refl
-  no_faults d (f ∷ fs) p called are some h =
-      let same : d ≡ h.definition = chosen_same (chosen files.documents name) d h.definition called h.served.called in
-      h.served.sound f (subst (λ x. StandsAgainst files x f) same ((are.1 f).0 (Contains-here f fs)))
+  no_faults : (d e : Definition) (o : Operation) (faults : List Fault) → chosen files.documents name ≡ Some d → AreAgainst files d faults → (faults ≡ [] → ⊥) → IsServed files name e o → ⊥
+  no_faults d e o [] called are some h = some refl
+  no_faults d e o (f ∷ fs) called are some h =
+      let same : d ≡ e = chosen_same (chosen files.documents name) d e called h.called in
+      h.sound f (subst (λ x. StandsAgainst files x f) same ((are.1 f).0 (Contains-here f fs)))
+
+  -- an operation that is not run has no response
+  no_response : (d : Definition) (o : Operation) (p : Response) → IsServed files name d o → is_run files.profile o.kind ≡ false → IsResponse files stored name variables p → ⊥
+  no_response d o p s not h =
+      let same : d ≡ h.definition = chosen_same (chosen files.documents name) d h.definition s.called h.served.called in
+      let there : h.definition.tree ≡ tree.Operation o = sym (ap (λ (x : Definition). x.tree) same) ∙ s.operation in
+      let one : o ≡ h.operation = operation_same h.definition o h.operation there h.served.operation in
+      let clash : true ≡ false = sym h.run ∙ sym (ap (λ (x : Operation). is_run files.profile x.kind) one) ∙ not in
+      cc clash
 
   same_faults : (d e : Definition) (fs gs : List Fault) → chosen files.documents name ≡ Some d → chosen files.documents name ≡ Some e → AreAgainst files d fs → AreAgainst files e gs → fs ≡ gs
   same_faults d e fs gs called_d called_e are_d are_e =
@@ -60,14 +70,23 @@ module _ (responses : OneResponse) (orders : OneOrder) (files : Files) (stored :
   one _ _ (faulty called are some) (no_operation is) made other = let clash : None ≡ Some _ = sym is ∙ called in absurd (cc clash)
   one _ _ (faulty {d = d} {faults = fs} called are some) (faulty {d = e} {faults = gs} called_e are_e some_e) made other =
       ap (λ (xs : List Fault). let a : Result CallOutcome Refusal = Err (refusal.Faulty xs) in a) (same_faults d e fs gs called called_e are are_e)
-  one _ _ (faulty {d = d} {faults = fs} called are some) (too_large {p = p} h more) made other = absurd (no_faults d fs p called are some h)
-  one _ _ (faulty {d = d} {faults = fs} called are some) (served {p = p} h most) made other = absurd (no_faults d fs p called are some h)
+  one _ _ (faulty {d = d} {faults = fs} called are some) (too_large {p = p} h more) made other = absurd (no_faults d h.definition h.operation fs called are some h.served)
+  one _ _ (faulty {d = d} {faults = fs} called are some) (served {p = p} h most) made other = absurd (no_faults d h.definition h.operation fs called are some h.served)
+  one _ _ (no_operation is) (not_run s not) made other = let clash : None ≡ Some _ = sym is ∙ s.called in absurd (cc clash)
+  one _ _ (not_run s not) (no_operation is) made other = let clash : None ≡ Some _ = sym is ∙ s.called in absurd (cc clash)
+  one _ _ (faulty {d = d} {faults = fs} called are some) (not_run {d = e} {o = o} s not) made other = absurd (no_faults d e o fs called are some s)
+  one _ _ (not_run {d = e} {o = o} s not) (faulty {d = d} {faults = fs} called are some) made other = absurd (no_faults d e o fs called are some s)
+  one _ _ (not_run s not) (not_run t also) made other = refl
+  one _ _ (not_run {d = d} {o = o} s not) (too_large {p = p} h more) made other = absurd (no_response d o p s not h)
+  one _ _ (not_run {d = d} {o = o} s not) (served {p = p} h most) made other = absurd (no_response d o p s not h)
+  one _ _ (too_large {p = p} h more) (not_run {d = d} {o = o} s not) made other = absurd (no_response d o p s not h)
+  one _ _ (served {p = p} h most) (not_run {d = d} {o = o} s not) made other = absurd (no_response d o p s not h)
   one _ _ (too_large h more) (no_operation is) made other = let clash : None ≡ Some h.definition = sym is ∙ h.served.called in absurd (cc clash)
-  one _ _ (too_large {p = p} h more) (faulty {d = d} {faults = fs} called are some) made other = absurd (no_faults d fs p called are some h)
+  one _ _ (too_large {p = p} h more) (faulty {d = d} {faults = fs} called are some) made other = absurd (no_faults d h.definition h.operation fs called are some h.served)
   one _ _ (too_large h more) (too_large k also) made other = refl
   one _ _ (too_large {p = p} h more) (served {p = q} k most) made other = absurd (heavy p q (one_response p q h k) more most)
   one _ _ (served h most) (no_operation is) made other = let clash : None ≡ Some h.definition = sym is ∙ h.served.called in absurd (cc clash)
-  one _ _ (served {p = p} h most) (faulty {d = d} {faults = fs} called are some) made other = absurd (no_faults d fs p called are some h)
+  one _ _ (served {p = p} h most) (faulty {d = d} {faults = fs} called are some) made other = absurd (no_faults d h.definition h.operation fs called are some h.served)
   one _ _ (served {p = p} h most) (too_large {p = q} k more) made other = absurd (heavy q p (one_response q p k h) more most)
   one _ _ (served {p = p} h most) (served {p = q} k also) made other =
       ap (λ (r : Response). let a : Result CallOutcome Refusal = Ok (outcome_of r) in a) (one_response p q h k)

@@ -1,5 +1,6 @@
 -- An edit has one answer, and leaves one state.
 use Rattle.std.proofs.Common.{◌≡◌, ◌≤◌, ℕ, List, length, Ok, Err, Option, Some, refl, sym, ap, ap₂, subst, ◌∙◌, arith}
+use Rattle.gql_text.specs.Lexis.{longest_text}
 use Rattle.gql_text.specs.declared.place.Place.{Place}
 use Rattle.gql_grammar.specs.declared.fault.SyntaxRefusal.{SyntaxRefusal}
 use Rattle.gql_grammar.specs.declared.fault.SyntaxFault.{SyntaxFault}
@@ -24,20 +25,20 @@ pub record OneReading : Type 0 where
   pub fault : (side : FileSide) (name bytes : List ℕ) (f g : SyntaxFault) → IsFaultOn side name bytes f → IsFaultOn side name bytes g → f ≡ g
 
 -- from the laws of each parser
-pub one_reading : ((name bytes : List ℕ) (a b : Document) → IsSchemaFile name bytes a → IsSchemaFile name bytes b → a ≡ b)
-    → ((name bytes : List ℕ) (f g : SyntaxFault) → IsSchemaFault name bytes f → IsSchemaFault name bytes g → f ≡ g)
-    → ((name bytes : List ℕ) (a b : Document) → IsDocumentFile name bytes a → IsDocumentFile name bytes b → a ≡ b)
-    → ((name bytes : List ℕ) (f g : SyntaxFault) → IsDocumentFault name bytes f → IsDocumentFault name bytes g → f ≡ g)
+pub one_reading : ((limit : ℕ) (name bytes : List ℕ) (a b : Document) → IsSchemaFile limit name bytes a → IsSchemaFile limit name bytes b → a ≡ b)
+    → ((limit : ℕ) (name bytes : List ℕ) (f g : SyntaxFault) → IsSchemaFault limit name bytes f → IsSchemaFault limit name bytes g → f ≡ g)
+    → ((limit : ℕ) (name bytes : List ℕ) (a b : Document) → IsDocumentFile limit name bytes a → IsDocumentFile limit name bytes b → a ≡ b)
+    → ((limit : ℕ) (name bytes : List ℕ) (f g : SyntaxFault) → IsDocumentFault limit name bytes f → IsDocumentFault limit name bytes g → f ≡ g)
     → OneReading
 one_reading schema_tree schema_fault document_tree document_fault = record { document = trees; fault = faults }
   where
     trees : (side : FileSide) (name bytes : List ℕ) (a b : Document) → IsFileOn side name bytes a → IsFileOn side name bytes b → a ≡ b
-    trees Schema = schema_tree
-    trees Documents = document_tree
+    trees Schema = schema_tree longest_text
+    trees Documents = document_tree longest_text
 
     faults : (side : FileSide) (name bytes : List ℕ) (f g : SyntaxFault) → IsFaultOn side name bytes f → IsFaultOn side name bytes g → f ≡ g
-    faults Schema = schema_fault
-    faults Documents = document_fault
+    faults Schema = schema_fault longest_text
+    faults Documents = document_fault longest_text
 
 same_syntax : (m n : SyntaxRefusal) (p q : Place) → At m p ≡ At n q → refusal.Syntax m p ≡ refusal.Syntax n q
 same_syntax m n p q e =
@@ -138,6 +139,7 @@ refused s t expected e refusal.BadData made h = h
 refused s t expected e refusal.NoOperation made h = h
 refused s t expected e (refusal.Faulty faults) made h = h
 refused s t expected e refusal.TooLarge made h = h
+refused s t expected e refusal.NotRun made h = h
 refused s t expected e refusal.Spent made h = h
 
 pub one_edit : OneReading → OneReport → OneEdit
@@ -154,8 +156,8 @@ one_edit one reports s t u expected e (Err r) (Err q) h k made_h made_k =
     (ap Err (one_first one s expected e r q x.0 y.0), x.1 ∙ sym y.1)
 
 -- a text is a file of a side or has a fault there, and never both
-pub apart_on : ((name bytes : List ℕ) (d : Document) (f : SyntaxFault) → IsSchemaFile name bytes d → IsSchemaFault name bytes f → ⊥)
-    → ((name bytes : List ℕ) (d : Document) (f : SyntaxFault) → IsDocumentFile name bytes d → IsDocumentFault name bytes f → ⊥)
+pub apart_on : ((limit : ℕ) (name bytes : List ℕ) (d : Document) (f : SyntaxFault) → IsSchemaFile limit name bytes d → IsSchemaFault limit name bytes f → ⊥)
+    → ((limit : ℕ) (name bytes : List ℕ) (d : Document) (f : SyntaxFault) → IsDocumentFile limit name bytes d → IsDocumentFault limit name bytes f → ⊥)
     → (side : FileSide) (name bytes : List ℕ) (d : Document) (f : SyntaxFault) → IsFileOn side name bytes d → IsFaultOn side name bytes f → ⊥
-apart_on schema document Schema = schema
-apart_on schema document Documents = document
+apart_on schema document Schema = schema longest_text
+apart_on schema document Documents = document longest_text

@@ -12,28 +12,28 @@ use Rattle.gql_verdict.specs.DocumentEdits.{ChangesOnly, touched_by, with_docume
 
 -- files with another side
 abbrev pub with_schema_side : Files → List (List ℕ × Document) → Files
-with_schema_side files schema = record { schema = schema; documents = files.documents }
+with_schema_side files schema = record files { schema = schema }
 
 abbrev pub with_document_side : Files → List (List ℕ × Document) → Files
-with_document_side files documents = record { schema = files.schema; documents = documents }
+with_document_side files documents = record files { documents = documents }
 
 pub schema_files : (files : Files) (name : List ℕ) (document : Option Document)
-    → with_file Schema files name document ≡ record { schema = edited_files files.schema name document; documents = files.documents }
+    → with_file Schema files name document ≡ record files { schema = edited_files files.schema name document }
 schema_files files name None = refl
 schema_files files name (Some document) = refl
 
 pub document_files : (files : Files) (name : List ℕ) (document : Option Document)
-    → with_file Documents files name document ≡ record { schema = files.schema; documents = edited_files files.documents name document }
+    → with_file Documents files name document ≡ record files { documents = edited_files files.documents name document }
 document_files files name None = refl
 document_files files name (Some document) = refl
 
 -- the files with one side edited, in the form that the code makes
 pub schema_edited : (files copy : Files) (name : List ℕ) (document : Option Document) (new : List (List ℕ × Document)) → copy ≡ files → new ≡ edited_files copy.schema name document
-    → with_file Schema files name document ≡ record { schema = new; documents = copy.documents }
+    → with_file Schema files name document ≡ record copy { schema = new }
 schema_edited files copy name document new same is = schema_files files name document ∙ sym (ap (with_schema_side copy) is ∙ ap (λ (f : Files). with_schema_side f (edited_files f.schema name document)) same)
 
 pub document_edited : (files copy : Files) (name : List ℕ) (document : Option Document) (new : List (List ℕ × Document)) → copy ≡ files → new ≡ edited_files copy.documents name document
-    → with_file Documents files name document ≡ record { schema = copy.schema; documents = new }
+    → with_file Documents files name document ≡ record copy { documents = new }
 document_edited files copy name document new same is = document_files files name document ∙ sym (ap (with_document_side copy) is ∙ ap (λ (f : Files). with_document_side f (edited_files f.documents name document)) same)
 
 -- which types an edit of a schema file changes, by the laws of a put and of a removal

@@ -18,7 +18,7 @@ FileList = List (List ℕ × Document)
 
 -- the same schema files, with these document files
 abbrev pub with_documents : Files → FileList → Files
-with_documents files documents = record { schema = files.schema; documents = documents }
+with_documents files documents = record files { documents = documents }
 
 fault_after : (files : Files) (documents : FileList) (s : Schema) (f : Fault) → FaultsBy files s f
     → FaultsBy (with_documents files documents) s f
@@ -123,22 +123,25 @@ same_side files documents side is = record {
   };
 }
 
-same_schema : (before after : Files) (side : SchemaSide) → before.schema ≡ after.schema → IsSideOf before side → IsSideOf after side
-same_schema before after side e is = subst (λ schema. IsSideOf (record { schema = schema; documents = after.documents }) side) e (same_side before after.documents side is)
+same_schema : (before after : Files) (side : SchemaSide) → before.profile ≡ after.profile → before.schema ≡ after.schema → IsSideOf before side → IsSideOf after side
+same_schema before after side p e is =
+    subst (λ schema. IsSideOf (record { profile = after.profile; schema = schema; documents = after.documents }) side) e
+    (subst (λ profile. IsSideOf (record { profile = profile; schema = before.schema; documents = after.documents }) side) p (same_side before after.documents side is))
 
 -- so an edit of a document file keeps the schema that is known
 pub kept_side : (known : Known) → IsSideAfterDocuments (Some known) (Some known.schema)
-kept_side known before after is e = same_schema before after known.schema e is.schema
+kept_side known before after is p e = same_schema before after known.schema p e is.schema
 
 -- what is known before an edit has the schema before it
 pub known_before : (names : List (List ℕ)) (name : List ℕ) (document : Option Document) (before after : Files) (known : Option Known) → IfSome known (IsKnownOf before)
-    → IsSchemaEdit names before after → after.schema ≡ edited_files before.schema name document → DiffersAt name before after
+    → IsSchemaEdit names before after → after.schema ≡ edited_files before.schema name document → before.profile ≡ after.profile → DiffersAt name before after
     → IfSome known (IsSideBeforeEdit names name document after)
-known_before names name document before after None is edit files elsewhere = is
-known_before names name document before after (Some known) is edit files elsewhere = record {
+known_before names name document before after None is edit files profile elsewhere = is
+known_before names name document before after (Some known) is edit files profile elsewhere = record {
   before = before;
   side_of = is.schema;
   edit = edit;
   files = files;
+  profile = profile;
   elsewhere = elsewhere;
 }

@@ -37,6 +37,7 @@ idle s t expected shelf e refusal.BadData m = refl
 idle s t expected shelf e refusal.NoOperation m = refl
 idle s t expected shelf e (refusal.Faulty faults) m = refl
 idle s t expected shelf e refusal.TooLarge m = refl
+idle s t expected shelf e refusal.NotRun m = refl
 idle s t expected shelf e refusal.Spent m = refl
 
 -- an edit that failed for memory

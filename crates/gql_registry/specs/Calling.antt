@@ -1,17 +1,24 @@
--- Helper definitions for private contracts: what the execution of an operation gives, for each
--- response of the request.
-use Rattle.std.specs.Prelude.{◌≡◌, ◌<◌, ◌≤◌}
+-- Helper definitions for private contracts: whether an operation is run, and what its execution
+-- gives, for each response of the request.
+use Rattle.std.specs.Prelude.{◌≡◌, ◌<◌, ◌≤◌, Bool}
 use Rattle.gql_ast.specs.declared.definition.Definition.{Definition}
 use Rattle.gql_ast.specs.declared.definition.Tree.TheVariants as tree
 use Rattle.gql_ast.specs.declared.executable.Operation.{Operation}
 use Rattle.gql_ast.specs.declared.files.Files.{Files}
+use Rattle.gql_ast.specs.declared.profile.Profile.{Profile}
 use Rattle.gql_steps.specs.Requests.{Executes, Response, most_values, request_of}
 use Rattle.gql_registry.specs.Calls.{outcome_of}
 use Rattle.gql_registry.specs.Prepared as prepared
+use Rattle.gql_registry.specs.Runs.{is_run}
 use Rattle.gql_registry.specs.declared.calling.Ran.{Ran}
 use Rattle.gql_registry.specs.declared.refusal.Refusal.{Refusal}
 use Rattle.gql_registry.specs.declared.refusal.Refusal.TheVariants.{TooLarge, Memory}
 use Rattle.serde_json.specs.Data.{Data}
+
+-- whether the operation of a definition is run
+abbrev pub TellsRun : Profile → Definition → Bool → Type 0
+TellsRun profile d runs = (operation : Operation) → d.tree ≡ tree.Operation operation
+    → runs ≡ is_run profile operation.kind
 
 -- `Holds` is true of each response to the request of an operation
 abbrev pub OfResponses : Files → Definition → Data → Data → (Response → Type 0) → Type 0

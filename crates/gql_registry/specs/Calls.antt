@@ -1,7 +1,7 @@
 -- What a call of a stored operation is answered (this registry's own rule): a refusal, if there is
--- no such operation or the operation is faulty; else the response that its execution gives. A served
--- mutation may add to the data; a refused call changes nothing.
-use Rattle.std.specs.Prelude.{◌≡◌, ◌≢◌, ◌↔◌, ◌<◌, ◌≤◌, ℕ, List, [], Contains, Option, Some, None, Result, Ok, Err}
+-- no such operation, or the operation is faulty or not run; else the response that its execution
+-- gives. A served mutation may add to the data; a refused call changes nothing.
+use Rattle.std.specs.Prelude.{◌≡◌, ◌≢◌, ◌↔◌, ◌<◌, ◌≤◌, ℕ, List, [], true, false, Contains, Option, Some, None, Result, Ok, Err}
 use Rattle.std.specs.List.Sorted.{IsStrictlySortedBy}
 use Rattle.gql_ast.specs.declared.definition.Definition.{Definition}
 use Rattle.gql_ast.specs.declared.definition.Tree.TheVariants as tree
@@ -16,8 +16,9 @@ use Rattle.gql_report.specs.Order.{fault_order}
 use Rattle.gql_schema_rules.specs.SchemaFaults.{IsSchemaFault}
 use Rattle.gql_serving.specs.Owned.{IsOwned}
 use Rattle.gql_registry.specs.Report.{IsFault}
+use Rattle.gql_registry.specs.Runs.{is_run}
 use Rattle.gql_registry.specs.declared.refusal.Refusal.{Refusal}
-use Rattle.gql_registry.specs.declared.refusal.Refusal.TheVariants.{NoOperation, Faulty, TooLarge, Memory}
+use Rattle.gql_registry.specs.declared.refusal.Refusal.TheVariants.{NoOperation, Faulty, TooLarge, NotRun, Memory}
 use Rattle.gql_stored.specs.Effects.{Effect}
 use Rattle.serde_json.specs.Data.{Data}
 
@@ -45,6 +46,7 @@ pub record IsResponse (files : Files) (stored : Data) (name : Option (List ℕ))
   pub definition : Definition
   pub operation : Operation
   pub served : IsServed files name definition operation
+  pub run : is_run files.profile operation.kind ≡ true
   pub executes : Executes (request_of files definition operation variables stored) p
 
 -- what a served call comes to: the text of its reply, and what it adds to the data, in order
@@ -67,7 +69,10 @@ pub data Answers (files : Files) (stored : Data) (name : Option (List ℕ)) (var
   faulty : {d : Definition} {faults : List Fault} → operations.chosen files.documents name ≡ Some d
       → AreAgainst files d faults → faults ≢ []
       → Answers files stored name variables (Err (Faulty faults))
-  -- 210: too many values are to be completed
+  -- 213: no fault keeps the operation from being executed, but it is not run
+  not_run : {d : Definition} {o : Operation} → IsServed files name d o
+      → is_run files.profile o.kind ≡ false → Answers files stored name variables (Err NotRun)
+  -- 210: too many values are to be completed: more than `most_values`, under every profile as yet
   too_large : {p : Response} → IsResponse files stored name variables p → most_values < p.weight
       → Answers files stored name variables (Err TooLarge)
   -- the response

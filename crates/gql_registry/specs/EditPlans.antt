@@ -42,6 +42,7 @@ pub record IsSideBefore (names : List (List ℕ)) (name : List ℕ) (document : 
   pub side_of : IsSideOf before side
   pub edit : IsSchemaEdit names before after
   pub files : after.schema ≡ edited_files before.schema name document
+  pub profile : before.profile ≡ after.profile
   -- the other schema files are the same
   pub elsewhere : DiffersAt name before after
 
@@ -58,10 +59,12 @@ abbrev pub IsSideBeforeEdit : List (List ℕ) → List ℕ → Option Document �
 IsSideBeforeEdit names name document after known =
     IsSideBefore names name document after known.schema
 
--- If this is known of files, the schema is that of all files with the same schema files.
+-- If this is known of files, the schema is that of all files with the same schema files under the
+-- same profile.
 abbrev pub IsSideAfterDocuments : Option Known → Option SchemaSide → Type 0
 IsSideAfterDocuments known schema = (before after : Files) → IfSome known (IsKnownOf before)
-    → before.schema ≡ after.schema → IfSome schema (IsSideOf after)
+    → before.profile ≡ after.profile → before.schema ≡ after.schema
+    → IfSome schema (IsSideOf after)
 
 -- If this is known of files, the index is that of all files with the same document files.
 abbrev pub IsIndexAfterSchema : Option Known → Option DocumentIndex → Type 0

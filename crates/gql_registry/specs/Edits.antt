@@ -10,10 +10,10 @@ use Rattle.gql_ast.specs.declared.fault.Fault.{Fault}
 use Rattle.gql_ast.specs.declared.fault.FileSide.{FileSide}
 use Rattle.gql_registry.specs.DataBodies.{IsDataText}
 use Rattle.gql_registry.specs.Report.{IsReport}
-use Rattle.gql_registry.specs.Sides.{IsFileOn, IsFaultOn, files_on, with_put, with_removed}
-use Rattle.gql_registry.specs.State.{State, next, next_data, last_revision, file_limit, most_files}
+use Rattle.gql_registry.specs.Sides.{IsFileOn, IsFaultOn, files_on, limit_on, with_put, with_removed}
+use Rattle.gql_registry.specs.State.{State, next, next_data, last_revision, profile_of}
 use Rattle.gql_registry.specs.declared.refusal.Refusal.{Refusal}
-use Rattle.gql_registry.specs.declared.refusal.Refusal.TheVariants.{Syntax, NotText, TooLong, NoFile, FilesFull, Stale, BadData, NoOperation, Faulty, TooLarge, Memory, Spent}
+use Rattle.gql_registry.specs.declared.refusal.Refusal.TheVariants.{Syntax, NotText, TooLong, NoFile, FilesFull, Stale, BadData, NoOperation, Faulty, TooLarge, NotRun, Memory, Spent}
 use Rattle.gql_registry.specs.declared.registry.Edited.{Edited}
 use Rattle.serde_json.specs.Data.{Data}
 
@@ -40,7 +40,7 @@ pub data Fails : State → Option ℕ → Edit → Refusal → Type 0 where
       → Fails s expected e Spent
   -- 203: the file has too many bytes
   too_long : {s : State} {expected : Option ℕ} {side : FileSide} {name bytes : List ℕ}
-      → file_limit < length bytes
+      → limit_on (profile_of s) side < length bytes
       → Fails s expected (put side name bytes) TooLong
   -- 202: the bytes are not UTF-8
   not_text : {s : State} {expected : Option ℕ} {side : FileSide} {name bytes : List ℕ}
@@ -64,7 +64,7 @@ pub data Fails : State → Option ℕ → Edit → Refusal → Type 0 where
   -- 205: the name is new, and the side has as many files as it may have
   files_full : {s : State} {expected : Option ℕ} {side : FileSide} {name bytes : List ℕ}
       → file_named (files_on side s.files) name ≡ None
-      → most_files ≤ length (files_on side s.files)
+      → (profile_of s).limits.files ≤ length (files_on side s.files)
       → Fails s expected (put side name bytes) FilesFull
 
 -- the order in which the checks are made: 206, 212, 203, 202, 201 or 207, 204, 205
@@ -80,6 +80,7 @@ rank FilesFull = 6
 rank NoOperation = 7
 rank (Faulty faults) = 7
 rank TooLarge = 7
+rank NotRun = 7
 rank Memory = 7
 
 -- the refusal of the first check that the edit fails

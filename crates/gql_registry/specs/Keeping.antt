@@ -2,6 +2,7 @@
 use Rattle.std.specs.Prelude.{◌≡◌, List, [], Option, IfSome, IsTrue}
 use Rattle.gql_ast.specs.declared.fault.Fault.{Fault}
 use Rattle.gql_ast.specs.declared.files.Files.{Files}
+use Rattle.gql_ast.specs.declared.profile.Profile.{Profile}
 use Rattle.gql_facts.specs.Facts.{fact_of, fragments}
 use Rattle.gql_facts.specs.Members.{Lists}
 use Rattle.gql_facts.specs.Tables.{tables_of}
@@ -36,10 +37,13 @@ pub record Keeping : Type 0 where
   pub shelf : List Judgement
   pub pairs : List KeptGroup
 
--- no files, and nothing kept
-abbrev pub nothing_kept : Keeping
-nothing_kept =
-    record { files = record { schema = []; documents = [] }; shelf = []; pairs = [] }
+-- no files under this profile, and nothing kept
+abbrev pub nothing_kept : Profile → Keeping
+nothing_kept profile = record {
+  files = record { profile = profile; schema = []; documents = [] };
+  shelf = [];
+  pairs = [];
+}
 
 -- one verdict for each definition of the document files; each holds, and observed exactly the keys
 -- that its definition reads

@@ -1,5 +1,5 @@
 -- The laws of the registry's report and edits. `src/laws.rt` has a function for each.
-use Rattle.std.specs.Prelude.{ℕ, ◌≡◌, List, Option, Some, None, Result, Err}
+use Rattle.std.specs.Prelude.{ℕ, ◌≡◌, List, Option, Some, None, Result, Err, false}
 use Rattle.std.specs.List.Sorted.{IsStrictlySortedBy}
 use Rattle.std.specs.Map.{keys_of}
 use Rattle.gql_ast.specs.FileMaps.{file_named, name_order}
@@ -9,13 +9,14 @@ use Rattle.gql_ast.specs.declared.fault.FileSide.{FileSide}
 use Rattle.gql_ast.specs.declared.files.Files.{Files}
 use Rattle.gql_registry.specs.Calls.{Answers, CallOutcome}
 use Rattle.gql_registry.specs.Edits.{Edit, put, remove, EditsFile, Leaves, Makes}
-use Rattle.gql_registry.specs.Loading.{MakesAll}
+use Rattle.gql_registry.specs.Loading.{Loads, MakesAll}
 use Rattle.gql_registry.specs.Report.{IsReport}
 use Rattle.gql_registry.specs.Sides.{IsFileOn, files_on}
-use Rattle.gql_registry.specs.State.{State}
+use Rattle.gql_registry.specs.State.{State, profile_of}
 use Rattle.gql_registry.specs.declared.refusal.Refusal.{Refusal}
-use Rattle.gql_registry.specs.declared.refusal.Refusal.TheVariants.{Memory}
+use Rattle.gql_registry.specs.declared.refusal.Refusal.TheVariants.{Memory, NotRun}
 use Rattle.gql_registry.specs.declared.registry.Edited.{Edited}
+use Rattle.gql_registry.specs.declared.loading.PutRefusal.{PutRefusal}
 use Rattle.serde_json.specs.Data.{Data}
 
 -- no allocation failed
@@ -38,6 +39,22 @@ OneAnswer = (files : Files) (stored : Data) (name : Option (List ℕ)) (variable
 -- one that putting them one by one leaves
 abbrev pub OneLoad : Type 0
 OneLoad = (s t u : State) (edits : List Edit) → MakesAll s edits t → MakesAll s edits u → t ≡ u
+
+-- an edit keeps the profile, whatever it answers
+abbrev pub EditKeepsProfile : Type 0
+EditKeepsProfile = (s t : State) (expected : Option ℕ) (e : Edit) (r : Result Edited Refusal)
+    → Makes s expected e r t → profile_of t ≡ profile_of s
+
+-- so does putting many files and data at once
+abbrev pub LoadKeepsProfile : Type 0
+LoadKeepsProfile = (s t : State) (edits : List Edit) (r : Result Edited PutRefusal)
+    → Loads s edits r t → profile_of t ≡ profile_of s
+
+-- without Float and subscriptions, every operation that no fault keeps from being executed is run
+abbrev pub AllAreRun : Type 0
+AllAreRun = (files : Files) (stored : Data) (name : Option (List ℕ)) (variables : Data)
+    → files.profile.floats ≡ false → files.profile.subscriptions ≡ false
+    → Answers files stored name variables (Err NotRun) → ⊥
 
 -- files have at most one report
 abbrev pub OneReport : Type 0

@@ -10,6 +10,7 @@ pub mod Edits
 pub mod Works
 pub mod Loading
 pub mod Working
+pub mod Runs
 pub mod Calls
 pub mod Calling
 pub mod Prepared

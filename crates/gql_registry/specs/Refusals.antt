@@ -22,6 +22,7 @@ number_of (refusal.Faulty faults) = 209
 number_of refusal.TooLarge = 210
 number_of refusal.Memory = 211
 number_of refusal.Spent = 212
+number_of refusal.NotRun = 213
 
 -- the refusal for a fault of a text
 abbrev pub refusal_of : SyntaxFault → Refusal

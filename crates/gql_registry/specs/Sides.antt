@@ -5,10 +5,17 @@ use Rattle.gql_ast.specs.declared.definition.Document.{Document}
 use Rattle.gql_ast.specs.declared.fault.FileSide.{FileSide}
 use Rattle.gql_ast.specs.declared.fault.FileSide.TheVariants.{Schema, Documents}
 use Rattle.gql_ast.specs.declared.files.Files.{Files}
+use Rattle.gql_ast.specs.declared.profile.Profile.{Profile}
 use Rattle.gql_parse_sdl.specs.DocumentFiles.{IsDocumentFile, IsDocumentFault}
 use Rattle.gql_parse_sdl.specs.SchemaFiles.{IsSchemaFile, IsSchemaFault}
+use Rattle.gql_text.specs.Lexis.{longest_text}
 use Rattle.gql_types.specs.Edits.{with_schema, without_schema}
 use Rattle.gql_verdict.specs.DocumentEdits.{with_document, without_document}
+
+-- the greatest number of bytes of a file of a side
+abbrev pub limit_on : Profile → FileSide → ℕ
+limit_on profile Schema = profile.limits.schema_file
+limit_on profile Documents = profile.limits.document_file
 
 -- the files of a side
 abbrev pub files_on : FileSide → Files → List (List ℕ × Document)
@@ -33,10 +40,10 @@ with_file side files name None = with_removed side files name
 
 -- the text is a file of this side and of that name, with this tree
 abbrev pub IsFileOn : FileSide → List ℕ → List ℕ → Document → Type 0
-IsFileOn Schema = IsSchemaFile
-IsFileOn Documents = IsDocumentFile
+IsFileOn Schema = IsSchemaFile longest_text
+IsFileOn Documents = IsDocumentFile longest_text
 
 -- the text has this fault, as a file of this side and of that name
 abbrev pub IsFaultOn : FileSide → List ℕ → List ℕ → SyntaxFault → Type 0
-IsFaultOn Schema = IsSchemaFault
-IsFaultOn Documents = IsDocumentFault
+IsFaultOn Schema = IsSchemaFault longest_text
+IsFaultOn Documents = IsDocumentFault longest_text

@@ -1,6 +1,8 @@
 -- What the registry holds.
 use Rattle.std.specs.Prelude.{ℕ, ◌+◌, ◌^◌, ◌-◌, List, []}
+use Rattle.gql_ast.specs.Profiles.{whole_numbers}
 use Rattle.gql_ast.specs.declared.files.Files.{Files}
+use Rattle.gql_ast.specs.declared.profile.Profile.{Profile}
 use Rattle.gql_pairs.specs.Groups.{KeptGroup}
 use Rattle.gql_registry.specs.declared.registry.Registry.{Registry}
 use Rattle.gql_stored.specs.Effects.{Effect, after}
@@ -27,13 +29,21 @@ shelf_of r = r.kept.shelf
 abbrev pub pairs_of : Registry → List KeptGroup
 pairs_of r = r.kept.pairs
 
--- the state without files, with data that has no members, before any edit
-abbrev pub empty : State
-empty = record {
-  files = record { schema = []; documents = [] };
+-- the state without files, with data that has no members, before any edit, under this profile
+abbrev pub empty_in : Profile → State
+empty_in profile = record {
+  files = record { profile = profile; schema = []; documents = [] };
   stored = object no_members;
   revision = 0;
 }
+
+-- the same under the profile that a registry has if none is given
+abbrev pub empty : State
+empty = empty_in whole_numbers
+
+-- what is served, and how much is taken
+abbrev pub profile_of : State → Profile
+profile_of s = s.files.profile
 
 -- the state after an accepted edit that leaves these files
 abbrev pub next : State → Files → State
@@ -50,11 +60,3 @@ with_effects s effects = record s { stored = after effects s.stored }
 -- the greatest revision
 abbrev pub last_revision : ℕ
 last_revision = 2 ^ 64 - 1
-
--- the greatest number of bytes of a file
-abbrev pub file_limit : ℕ
-file_limit = 65536
-
--- the greatest number of files of a kind
-abbrev pub most_files : ℕ
-most_files = 256

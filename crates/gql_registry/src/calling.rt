@@ -2,15 +2,16 @@
 ghost use Rattle.std.specs.Prelude.{◌≡◌, ◌≢◌, ℕ, List, [], IfErr, IfOk};
 ghost use Rattle.std.specs.Option.{option_copied};
 ghost use Rattle.gql_ast.specs.declared.files.Files.{Files as TheFiles};
-ghost use Rattle.gql_registry.specs.Calling.{IsOutcomeOf, IsOver};
+ghost use Rattle.gql_registry.specs.Calling.{IsOutcomeOf, IsOver, TellsRun};
 ghost use Rattle.gql_registry.specs.Calls.{Answers, AreAgainst};
 ghost use Rattle.gql_registry.specs.Keeping.{IsKnownOf};
 ghost use Rattle.gql_registry.specs.Prepared.{ran_of};
+ghost use Rattle.gql_registry.specs.Runs as spec;
 ghost use Rattle.serde_json.specs.View.{view};
 
 use crate::refusal::Refusal;
 use crate::report::{Known, sharing};
-use gql_ast::{Definition, Fault, Items, Shared};
+use gql_ast::{Definition, Fault, Items, OperationKind, Profile, Shared, Tree};
 use gql_exec::{Effect, ExecRefusal, execute};
 use gql_facts::Present;
 use gql_reply::reply_text;
@@ -49,6 +50,26 @@ fn faults_against(
     Ok(faults)
 }
 
+/// Whether operations of this kind are run. A subscription is not, and none is where Float is served.
+fn is_run(profile: Profile, kind: OperationKind) -> bool
+    ensures { result ≡ spec.is_run profile kind }
+{
+    match kind {
+        OperationKind::Query | OperationKind::Mutation => !profile.floats,
+        OperationKind::Subscription => false,
+    }
+}
+
+/// Whether the operation of a definition is run.
+fn runs(profile: Profile, definition: &Definition) -> bool
+    ensures { TellsRun profile definition.now result }
+{
+    match &definition.tree {
+        Tree::Operation(operation) => is_run(profile, operation.get().kind),
+        _ => false,
+    }
+}
+
 /// Executes an operation, and writes the reply.
 fn executed(
     alloc: Global,
@@ -84,15 +105,17 @@ fn executed(
 }
 
 /// Answers a call of the operation of a name, or of the only one, with these values for its
-/// variables, on this data. The refusals are 208, 209 and 210, in this order.
+/// variables, on this data, under the profile of the files. The refusals are 208, 209, 213 and 210, in
+/// this order.
 pub fn answer_call(
     alloc: Global,
+    profile: Profile,
     known: &Known,
     name: Option<&str>,
     variables: &Value,
     stored: &Value,
 ) -> Result<Ran, Refusal>
-    ensures { (files : TheFiles) → IsKnownOf files known.now
+    ensures { (files : TheFiles) → IsKnownOf files known.now → files.profile ≡ profile
         → Answers files (view stored.now) (option_copied name.entry) (view variables.now)
         (ran_of result) }
 {
@@ -106,6 +129,9 @@ pub fn answer_call(
         return Err(Refusal::Faulty {
             faults: Items::from_vec(faults),
         });
+    }
+    if !runs(profile, definition) {
+        return Err(Refusal::NotRun);
     }
     executed(alloc, known, definition, variables, stored)
 }

@@ -24,7 +24,7 @@ use crate::edit_plan::{EditPlan, edit_plan};
 use crate::index::{DocumentIndex, document_index};
 use crate::refusal::Refusal;
 use crate::report::{Known, SchemaSide, known_with, schema_side, sharing};
-use gql_ast::{Document, Fault, FileName, FileSide, Files, Shared};
+use gql_ast::{Document, Fault, FileName, FileSide, Files, Profile, Shared};
 use gql_facts::Present;
 use gql_verdict::{Meter, Prepared, Shelf};
 use serde_json::Value;
@@ -242,13 +242,13 @@ fn examine(
 }
 
 impl Kept {
-    /// No files.
+    /// No files, under this profile.
     #[tactic(auto, using(crate::proofs::Knowing::none_kept))]
-    pub fn new(alloc: Global) -> Kept
-        ensures { result ≡ nothing_kept }
+    pub fn of(alloc: Global, profile: Profile) -> Kept
+        ensures { result ≡ nothing_kept profile }
     {
         Kept {
-            files: Files::new(alloc),
+            files: Files::of(alloc, profile),
             known: None,
             shelf: Shelf::new(alloc),
         }
@@ -318,11 +318,12 @@ impl Kept {
         ensures { Answers self.now.files (view stored.now) (option_copied name.entry)
             (view variables.now) (ran_of result) }
     {
+        let profile = self.files.profile;
         if let Some(known) = &self.known {
-            return answer_call(alloc, known, name, variables, stored);
+            return answer_call(alloc, profile, known, name, variables, stored);
         }
         let known = known_of(alloc, &self.shelf, &self.files)?;
-        answer_call(alloc, &known, name, variables, stored)
+        answer_call(alloc, profile, &known, name, variables, stored)
     }
 
     /// The plan of an edit that replaces the file of a name on a side by this one, or removes it if

@@ -1,5 +1,5 @@
 //! Laws of the registry's report and edits. The functions do nothing: what they ensure is the law.
-ghost use Rattle.gql_registry.specs.Laws.{HoldsAfter, OneAnswer, OneEdit, OneLoad, OneReport};
+ghost use Rattle.gql_registry.specs.Laws.{AllAreRun, EditKeepsProfile, HoldsAfter, LoadKeepsProfile, OneAnswer, OneEdit, OneLoad, OneReport};
 
 /// Files have at most one report. Unless an allocation fails, an edit has at most one answer and
 /// leaves at most one state, and a call has at most one answer.
@@ -21,6 +21,19 @@ pub fn one_load()
 {
     gql_parse_sdl::one_answer();
     gql_parse_sdl::one_document_answer();
+}
+
+/// Edits keep the profile, those that are put at once too.
+pub fn keeps_profile()
+    ensures edit { EditKeepsProfile }
+    ensures load { LoadKeepsProfile }
+{}
+
+/// Without Float and subscriptions, every operation that no fault keeps from being executed is run.
+pub fn all_are_run()
+    ensures { AllAreRun }
+{
+    gql_serving::laws::no_subscriptions();
 }
 
 /// After an accepted edit, a name of a side holds the document that was put under it, nothing if

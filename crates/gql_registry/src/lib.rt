@@ -19,6 +19,5 @@ mod report;
 mod sides;
 
 pub use loading::{GivenPut, PutRefusal};
-pub use reading::{MAX_FILE_BYTES, MAX_FILES};
 pub use refusal::{Refusal, syntax_message};
 pub use registry::{Edited, Prepared, Registry, Reply};

@@ -101,8 +101,9 @@ fn put_file(
     // The laws that a text has a tree or a fault, and never both.
     one_answer();
     one_document_answer();
-    let document = read_file(alloc, side, name, bytes)?;
-    if !has_room(files_on(files, side), name) {
+    let profile = files.profile;
+    let document = read_file(alloc, profile, side, name, bytes)?;
+    if !has_room(files_on(files, side), name, profile.limits.files) {
         return Err(Refusal::FilesFull);
     }
     put_on(alloc, files, side, name.copy(), document)?;

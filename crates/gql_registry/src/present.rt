@@ -1,12 +1,12 @@
-//! What is present in a registry: its files, the verdicts and the report.
+//! What is present in a registry: its profile, its files, the verdicts and the report.
 ghost use Rattle.std.specs.Prelude.{◌≡◌, ◌↔◌, IfOk, IsTrue};
 ghost use Rattle.gql_registry.specs.Keeping.{ArePairsOf, IsShelfOf};
 ghost use Rattle.gql_registry.specs.Report as spec;
-ghost use Rattle.gql_registry.specs.State.{pairs_of, shelf_of, state_of};
+ghost use Rattle.gql_registry.specs.State.{pairs_of, profile_of, shelf_of, state_of};
 
 use crate::registry::Registry;
 use crate::report::copies;
-use gql_ast::{Fault, Files, Shared};
+use gql_ast::{Fault, Files, Profile, Shared};
 use gql_verdict::Shelf;
 use std::alloc::AllocError;
 
@@ -14,7 +14,21 @@ impl Registry {
     ghost use Rattle.std.specs.Prelude.{◌≡◌, ◌↔◌, IfOk, IsTrue};
     ghost use Rattle.gql_registry.specs.Keeping.{ArePairsOf, IsShelfOf};
     ghost use Rattle.gql_registry.specs.Report as spec;
-    ghost use Rattle.gql_registry.specs.State.{pairs_of, shelf_of, state_of};
+    ghost use Rattle.gql_registry.specs.State.{pairs_of, profile_of, shelf_of, state_of};
+
+    /// What is served, and how much is taken.
+    pub fn profile(&self) -> Profile
+        ensures { result ≡ profile_of (state_of self.now) }
+    {
+        self.kept.files().profile
+    }
+
+    /// How many edits were accepted.
+    pub fn revision(&self) -> u64
+        ensures { result ≡ (state_of self.now).revision }
+    {
+        self.revision
+    }
 
     /// The files that are present.
     pub fn files(&self) -> &Files

@@ -7,36 +7,33 @@ ghost use Rattle.serde_json.specs.View.{view};
 
 use crate::data::{DataFault, data_in};
 use crate::refusal::Refusal;
-use crate::sides::parse_on;
-use gql_ast::{Document, FileMap, FileName, FileSide, Shared};
+use crate::sides::{limit_on, parse_on};
+use gql_ast::{Document, FileMap, FileName, FileSide, Profile, Shared};
 use serde_json::Value;
 use std::alloc::Global;
 use std::str;
 
-/// The greatest number of bytes of a file.
-pub const MAX_FILE_BYTES: usize = 65_536;
-
-/// How many files of a kind there may be.
-pub const MAX_FILES: usize = 256;
-
-/// Whether a file of that name has room.
-pub fn has_room(files: &FileMap<Shared<Document>>, name: &FileName) -> bool
-    ensures { result ≡ (is_some (file_named files.now name.now) || nat_lt (length files.now) 256) }
+/// Whether a file of that name has room, where there may be `most` files of its kind.
+pub fn has_room(files: &FileMap<Shared<Document>>, name: &FileName, most: usize) -> bool
+    ensures { result ≡ (is_some (file_named files.now name.now) || nat_lt (length files.now) most) }
 {
-    files.has(name) || files.len() < MAX_FILES
+    files.has(name) || files.len() < most
 }
 
-/// Reads bytes as a file of a side. The refusals are 203, 202 and 201, in this order.
+/// Reads bytes as a file of a side, within the limit of the profile. The refusals are 203, 202 and
+/// 201, in this order.
 pub fn read_file(
     alloc: Global,
+    profile: Profile,
     side: FileSide,
     name: &FileName,
     bytes: &[u8],
 ) -> Result<Document, Refusal>
-    ensures read { IfOk result (IsRead side name.now bytes.now) }
-    ensures err { IfErr result (IsUnread side name.now bytes.now) }
+    ensures read { IfOk result (IsRead profile side name.now bytes.now) }
+    ensures err { IfErr result (IsUnread profile side name.now bytes.now) }
 {
-    if bytes.len() > MAX_FILE_BYTES {
+    let limit = limit_on(profile, side);
+    if bytes.len() > limit {
         return Err(Refusal::TooLong);
     }
     let Ok(text) = str::from_utf8(bytes) else {

@@ -21,13 +21,13 @@ pub enum Refusal {
     /// 202: the bytes are not UTF-8.
     #[error("body is not UTF-8")]
     NotText,
-    /// 203: a file of more than 65,536 bytes.
+    /// 203: a file of more bytes than the profile takes.
     #[error("file is too long")]
     TooLong,
     /// 204: no file of that name.
     #[error("no such file")]
     NoFile,
-    /// 205: a 257th file of its kind.
+    /// 205: a file more of its kind than the profile takes.
     #[error("too many files")]
     FilesFull,
     /// 206: the edit expects another revision than the present one, which `revision` is.
@@ -51,12 +51,15 @@ pub enum Refusal {
     /// 212: there is no revision after the present one.
     #[error("revisions are spent")]
     Spent,
+    /// 213: the operation has no faults, and is not run: it is a subscription, or the profile has Float.
+    #[error("this operation is not run")]
+    NotRun,
 }
 
 impl Refusal {
     ghost use Rattle.gql_registry.specs.Refusals.{number_of};
 
-    /// The number of the refusal, from 201 to 212.
+    /// The number of the refusal, from 201 to 213.
     pub fn number(&self) -> u16
         ensures { result ≡ number_of self.now }
     {
@@ -73,6 +76,7 @@ impl Refusal {
             Refusal::TooLarge => 210,
             Refusal::Memory => 211,
             Refusal::Spent => 212,
+            Refusal::NotRun => 213,
         }
     }
 }

@@ -9,7 +9,7 @@ use crate::kept::Kept;
 use crate::reading::{has_room, read_data, read_file};
 use crate::refusal::Refusal;
 use crate::sides::files_on;
-use gql_ast::{FileName, FileSide};
+use gql_ast::{FileName, FileSide, Profile};
 use gql_parse_sdl::{one_answer, one_document_answer};
 use gql_stored::{Additions, StoredData};
 use gql_verdict::Meter;
@@ -77,29 +77,32 @@ impl Registry {
     ghost use Rattle.gql_registry.specs.Prepared.{IsPreparedFor, added_by, answer_of, body_of, prepared_of};
     ghost use Rattle.gql_registry.specs.EditPlans.{IsEditPlanBy, IsEditPlanOf, IsRefusedBy};
     ghost use Rattle.gql_registry.specs.Keeping.{HasPairsDue, IsWholeWorkOn, IsWorkOn, KeepsPairs};
-    ghost use Rattle.gql_registry.specs.State.{empty, next, pairs_of, shelf_of, state_of, with_effects};
+    ghost use Rattle.gql_registry.specs.State.{empty, empty_in, next, pairs_of, shelf_of, state_of, with_effects};
     ghost use Rattle.gql_registry.specs.Works.{Works};
     ghost use Rattle.std.specs.Prelude.{[]};
 
-    /// A registry without files and with data that has no members, at revision 0.
+    /// A registry without files and with data that has no members, at revision 0, under the profile
+    /// `Profile::whole_numbers()`.
     pub fn new(alloc: Global) -> Registry
         ensures state { state_of result ≡ empty }
         ensures shelf { shelf_of result ≡ [] }
         ensures pairs { pairs_of result ≡ [] }
     {
+        Registry::with(alloc, Profile::whole_numbers())
+    }
+
+    /// The same under this profile. It stays the profile of the registry.
+    pub fn with(alloc: Global, profile: Profile) -> Registry
+        ensures state { state_of result ≡ empty_in profile }
+        ensures shelf { shelf_of result ≡ [] }
+        ensures pairs { pairs_of result ≡ [] }
+    {
         Registry {
             alloc,
-            kept: Kept::new(alloc),
+            kept: Kept::of(alloc, profile),
             stored: StoredData::new(Value::Object(Map::new(alloc))),
             revision: 0,
         }
-    }
-
-    /// How many edits were accepted.
-    pub fn revision(&self) -> u64
-        ensures { result ≡ (state_of self.now).revision }
-    {
-        self.revision
     }
 
     /// The revision after the present one, for an edit that expects this revision. The refusals are
@@ -135,8 +138,9 @@ impl Registry {
         // The laws that a text has a tree or a fault, and never both.
         one_answer();
         one_document_answer();
-        let document = read_file(self.alloc, side, &name, bytes)?;
-        if !has_room(files_on(self.kept.files(), side), &name) {
+        let present = self.kept.files();
+        let document = read_file(self.alloc, present.profile, side, &name, bytes)?;
+        if !has_room(files_on(present, side), &name, present.profile.limits.files) {
             return Err(Refusal::FilesFull);
         }
         Ok(self.kept.plan(self.alloc, side, name, Some(document))?)
@@ -352,8 +356,8 @@ impl Registry {
     /// Prepares a run of the stored operation of a name, or without a name of the only one, with the
     /// values of its variables, which are an object or null, on the data. The refusals, in this
     /// order: 208 if there is no such operation; 209 if the schema, the operation or a fragment
-    /// that it reaches has faults, with these faults; 210 if more than 100,000 values are to be
-    /// completed; and 211 if an allocation fails. Nothing is changed.
+    /// that it reaches has faults, with these faults; 213 if it is not run; 210 if more than 100,000
+    /// values are to be completed; and 211 if an allocation fails. Nothing is changed.
     pub fn prepare(&self, name: Option<&str>, variables: &Value) -> Result<Prepared, Refusal>
         ensures answers { Answers (state_of self.now).files (state_of self.now).stored
             (option_copied name.entry) (view variables.now) (prepared_of result) }

@@ -6,10 +6,24 @@ ghost use Rattle.gql_text.specs.declared.place.Place.{Place as ThePlace};
 ghost use Rattle.gql_registry.specs.Checks.{IsPlacedOn};
 ghost use Rattle.gql_registry.specs.Sides as spec;
 
-use gql_ast::{Document, FileMap, FileName, FileSide, Files, Shared};
+use gql_ast::{Document, FileMap, FileName, FileSide, Files, Profile, Shared};
 use gql_grammar::SyntaxFault;
-use gql_parse_sdl::{parse_any, parse_sdl};
+use gql_parse_sdl::{parse_any_within, parse_sdl_within};
 use std::alloc::{AllocError, Global};
+
+/// The most bytes of a text that can be parsed (`longest_text` in contracts). A profile has a limit of
+/// its own, which comes first.
+const LONGEST_TEXT: usize = 16_777_216;
+
+/// The greatest number of bytes of a file of a side.
+pub fn limit_on(profile: Profile, side: FileSide) -> usize
+    ensures { result ≡ spec.limit_on profile side }
+{
+    match side {
+        FileSide::Schema => profile.limits.schema_file,
+        FileSide::Documents => profile.limits.document_file,
+    }
+}
 
 /// The files of a side.
 pub fn files_on(files: &Files, side: FileSide) -> &FileMap<Shared<Document>>
@@ -34,8 +48,8 @@ pub fn parse_on(
         → spec.IsFaultOn side name text.now (At number place) }
 {
     match side {
-        FileSide::Schema => parse_sdl(alloc, name, text),
-        FileSide::Documents => parse_any(alloc, name, text),
+        FileSide::Schema => parse_sdl_within(alloc, name, text, LONGEST_TEXT),
+        FileSide::Documents => parse_any_within(alloc, name, text, LONGEST_TEXT),
     }
 }
 

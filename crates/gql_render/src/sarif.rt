@@ -24,7 +24,7 @@ fn rules_of(alloc: Global, faults: &[&Finding]) -> Result<Vec<Rule>, AllocError>
     Ok(rules)
 }
 
-/// The place of a rule in a list, which has each of at most 70 rules once; its length where it has
+/// The place of a rule in a list, which has each of at most 71 rules once; its length where it has
 /// not the rule.
 fn place_of(rules: &[Rule], rule: Rule) -> usize {
     rules

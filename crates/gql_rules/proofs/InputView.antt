@@ -1,5 +1,5 @@
 -- What facts say of input types, piece by piece.
-use Rattle.std.specs.Prelude.{◌≡◌, ℕ, List, [], ◌∷◌, map, Option, Some, None, Contains}
+use Rattle.std.specs.Prelude.{◌≡◌, ℕ, List, [], ◌∷◌, map, Bool, Option, Some, None, Contains}
 use Rattle.std.specs.Option.{option_map}
 use Rattle.std.proofs.Common.{ap, sym, ◌∙◌, subst, inl, inr}
 use Rattle.gql_types.specs.Written.{Written}
@@ -7,6 +7,7 @@ use Rattle.gql_types.specs.WrittenTypes.{named_type, type_of}
 use Rattle.gql_types.specs.declared.kind.TypeKind.{TypeKind}
 use Rattle.gql_types.specs.declared.kind.TypeKind.TheVariants as kind
 use Rattle.gql_types.proofs.Wrapping.{typed_back}
+use Rattle.gql_facts.specs.Floats.{is_open_in}
 use Rattle.gql_facts.specs.ListMembers.{Contains-nil, Contains-here, Contains-there, Contains-cases, Contains-map}
 use Rattle.gql_facts.specs.Reads.{types_in, input_types}
 use Rattle.gql_facts.specs.Worlds.{Facts}
@@ -68,17 +69,17 @@ no_enum : (values : Option (List (List ℕ))) (fields : List FieldForm)
 no_enum None fields e = cc e
 no_enum (Some values) fields e = cc e
 
-of_kind : (m : List ℕ) (o : Option TypeKind) (a b : Fact) (fields : List FieldForm) (f : FieldForm)
-    → form_by m o a b ≡ Some (input_object fields) → Contains fields f → FieldFrom a f
-of_kind m (Some kind.Scalar) a b fields f e h = absurd (cc e)
-of_kind m (Some kind.Enum) a b fields f e h = absurd (no_enum (values_in b) fields e)
-of_kind m (Some kind.InputObject) a b fields f e h = of_object a fields f e h
-of_kind m (Some kind.Object) a b fields f e h = absurd (cc e)
-of_kind m (Some kind.Interface) a b fields f e h = absurd (cc e)
-of_kind m (Some kind.Union) a b fields f e h = absurd (cc e)
-of_kind m None a b fields f e h = absurd (cc e)
+of_kind : (floats : Bool) (m : List ℕ) (o : Option TypeKind) (a b : Fact) (fields : List FieldForm) (f : FieldForm)
+    → form_by floats m o a b ≡ Some (input_object fields) → Contains fields f → FieldFrom a f
+of_kind floats m (Some kind.Scalar) a b fields f e h = absurd (cc e)
+of_kind floats m (Some kind.Enum) a b fields f e h = absurd (no_enum (values_in b) fields e)
+of_kind floats m (Some kind.InputObject) a b fields f e h = of_object a fields f e h
+of_kind floats m (Some kind.Object) a b fields f e h = absurd (cc e)
+of_kind floats m (Some kind.Interface) a b fields f e h = absurd (cc e)
+of_kind floats m (Some kind.Union) a b fields f e h = absurd (cc e)
+of_kind floats m None a b fields f e h = absurd (cc e)
 
 -- the type of a field of an input object is named by the answer for the object
 pub fields_from : (v : Facts) (m : List ℕ) (fields : List FieldForm) (f : FieldForm)
     → known_inputs v m ≡ Some (input_object fields) → Contains fields f → FieldFrom (v (key.InputOf m)) f
-fields_from v m fields f e h = of_kind m (kind_of v m) (v (key.InputOf m)) (v (key.EnumOf m)) fields f e h
+fields_from v m fields f e h = of_kind (is_open_in v) m (kind_of v m) (v (key.InputOf m)) (v (key.EnumOf m)) fields f e h

@@ -1,5 +1,5 @@
 -- What the answers of files say of input types is what their schema says.
-use Rattle.std.specs.Prelude.{◌≡◌, ℕ, List, [], ◌∷◌, map, refl, bytes_eq, is_some, Option, Some, None}
+use Rattle.std.specs.Prelude.{◌≡◌, ℕ, List, [], ◌∷◌, map, refl, bytes_eq, codes, is_some, Bool, Option, Some, None}
 use Rattle.std.specs.Option.{option_map, option_and_then}
 use Rattle.std.proofs.Common.{ap, ◌∙◌}
 use Rattle.std.proofs.lemmas.Slice.Eq.{bytes_eq-Decides}
@@ -13,15 +13,15 @@ use Rattle.gql_types.specs.declared.kind.TypeKind.TheVariants as kind
 use Rattle.gql_types.specs.declared.schema_type.SchemaType.{SchemaType}
 use Rattle.gql_types.proofs.Wrapping.{typed_back}
 use Rattle.gql_facts.specs.Facts.{answer, fact_of, input_fact, input_facts, value_names}
+use Rattle.gql_facts.specs.Floats.{is_open_in}
 use Rattle.gql_facts.specs.ListMembers.{found_in}
 use Rattle.gql_facts.specs.declared.fact.Fact.TheVariants as fact
-use Rattle.gql_inputs.specs.InputTypes.{name_of, scalar_named}
-use Rattle.gql_inputs.specs.Lookups.{InputForm, FieldForm, scalar, enumeration, input_object, form_of, form_at, in_schema}
+use Rattle.gql_inputs.specs.InputTypes.{is_open, name_of, scalar_named}
+use Rattle.gql_inputs.specs.Lookups.{FieldForm, scalar, input_object, form_of, form_at, in_schema}
 use Rattle.gql_inputs.specs.Lookups as lookups
 use Rattle.gql_rules.specs.Answers.{kind_in}
 use Rattle.gql_rules.specs.KnownInputs.{known_inputs, form_by, field_of}
 
--- a field of an input object
 -- a field of an input object, of this type
 abbrev field_with : Sited InputValueDefinition → Written → FieldForm
 field_with d t = record {
@@ -38,25 +38,35 @@ fields_same [] = refl
 fields_same (d ∷ ds) = ap (λ f. f ∷ map field_of (input_facts ds)) (field_same d) ∙ ap (λ l. lookups.field_of d ∷ l) (fields_same ds)
 
 -- a type of this name, by its kind
-by_kind : (name : List ℕ) (t : SchemaType) (k : TypeKind) → name ≡ name_of t
-    → form_by name (Some k) (answer (λ ds. fact.Input (input_facts ds)) (inputs_by k t)) (answer (λ vs. fact.Enum (value_names vs)) (values_by k t))
-    ≡ form_at t k
-by_kind name t kind.Scalar is = ap (λ n. Some (scalar (scalar_named n))) is
-by_kind name t kind.Enum is = refl
-by_kind name t kind.InputObject is = ap (λ fs. Some (input_object fs)) (fields_same t.input_fields)
-by_kind name t kind.Object is = refl
-by_kind name t kind.Interface is = refl
-by_kind name t kind.Union is = refl
+by_kind : (floats : Bool) (name : List ℕ) (t : SchemaType) (k : TypeKind) → name ≡ name_of t
+    → form_by floats name (Some k) (answer (λ ds. fact.Input (input_facts ds)) (inputs_by k t)) (answer (λ vs. fact.Enum (value_names vs)) (values_by k t))
+    ≡ form_at floats t k
+by_kind floats name t kind.Scalar is = ap (λ n. Some (scalar (scalar_named floats n))) is
+by_kind floats name t kind.Enum is = refl
+by_kind floats name t kind.InputObject is = ap (λ fs. Some (input_object fs)) (fields_same t.input_fields)
+by_kind floats name t kind.Object is = refl
+by_kind floats name t kind.Interface is = refl
+by_kind floats name t kind.Union is = refl
 
 -- a name, by the type that has it
-by_type : (name : List ℕ) (o : Option SchemaType) → ((t : SchemaType) → o ≡ Some t → name ≡ name_of t)
-    → form_by name (kind_in (answer fact.Kind (option_map (λ (t : SchemaType). t.kind) o)))
+by_type : (floats : Bool) (name : List ℕ) (o : Option SchemaType) → ((t : SchemaType) → o ≡ Some t → name ≡ name_of t)
+    → form_by floats name (kind_in (answer fact.Kind (option_map (λ (t : SchemaType). t.kind) o)))
     (answer (λ ds. fact.Input (input_facts ds)) (option_and_then (λ (t : SchemaType). inputs_by t.kind t) o))
     (answer (λ vs. fact.Enum (value_names vs)) (option_and_then (λ (t : SchemaType). values_by t.kind t) o))
-    ≡ option_and_then form_of o
-by_type name None is = refl
-by_type name (Some t) is = by_kind name t t.kind (is t refl)
+    ≡ option_and_then (form_of floats) o
+by_type floats name None is = refl
+by_type floats name (Some t) is = by_kind floats name t t.kind (is t refl)
+
+-- a type has a kind, if it is known
+has_kind : (o : Option SchemaType) → is_some (kind_in (answer fact.Kind (option_map (λ (t : SchemaType). t.kind) o))) ≡ is_some o
+has_kind None = refl
+has_kind (Some t) = refl
+
+-- whether Float is a type is the same
+same_open : (files : Files) → is_open_in (fact_of files) ≡ is_open (schema_of files)
+same_open files = has_kind (type_named (schema_of files) (codes "Float"))
 
 pub same_inputs : (files : Files) (name : List ℕ) → known_inputs (fact_of files) name ≡ in_schema (schema_of files) name
-same_inputs files name = by_type name (type_named (schema_of files) name)
+same_inputs files name = by_type (is_open_in (fact_of files)) name (type_named (schema_of files) name)
     (λ t found. (bytes_eq-Decides name (name_of t)).0 (found_in (λ (x : SchemaType). bytes_eq name x.definition.node.name.text) (schema_of files).types t found).1)
+    ∙ ap (λ floats. option_and_then (form_of floats) (type_named (schema_of files) name)) (same_open files)

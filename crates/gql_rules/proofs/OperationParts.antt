@@ -21,7 +21,7 @@ five x a b c d e = grind (arith, common_steps)
 module _ (F : Facts) (owner : FilePlace) (o : Operation) where
   pub visited : (root : Fact) (F1 F2 F3 F4 : Facts) (selected parent : Option (List ℕ)) (f0 f1 f2 f3 f4 f5 : List Fault)
       → root ≡ F (key.RootOf o.kind) → F1 ≡ F → F2 ≡ F → F3 ≡ F → F4 ≡ F
-      → f1 ≡ f0 ++ p03.faults owner o
+      → f1 ≡ f0 ++ p03.faults_by owner o o.kind (root_in root)
       → f2 ≡ f1 ++ p05.faults_by owner o o.kind (root_in root)
       → f3 ≡ f2 ++ directives_faults F1 owner (location_of o.kind) o.directives
       → f4 ≡ f3 ++ flat_map (variable_faults F2 owner) o.variables
@@ -34,16 +34,16 @@ module _ (F : Facts) (owner : FilePlace) (o : Operation) where
       (e4 ∙ ap (λ l. l ++ flat_map (variable_faults F2 owner) o.variables)
       (e3 ∙ ap (λ l. l ++ directives_faults F1 owner (location_of o.kind) o.directives)
       (e2 ∙ ap (λ l. l ++ p05.faults_by owner o o.kind (root_in root)) e1)))
-      ∙ five f0 (p03.faults owner o) (p05.faults_by owner o o.kind (root_in root)) (directives_faults F1 owner (location_of o.kind) o.directives)
+      ∙ five f0 (p03.faults_by owner o o.kind (root_in root)) (p05.faults_by owner o o.kind (root_in root)) (directives_faults F1 owner (location_of o.kind) o.directives)
       (flat_map (variable_faults F2 owner) o.variables) (set_visit F4 owner parent o.selections)
-      ∙ ap (λ f. f0 ++ (p03.faults owner o ++ (p05.faults_by owner o o.kind (root_in f) ++ (directives_faults F1 owner (location_of o.kind) o.directives
+      ∙ ap (λ f. f0 ++ (p03.faults_by owner o o.kind (root_in f) ++ (p05.faults_by owner o o.kind (root_in f) ++ (directives_faults F1 owner (location_of o.kind) o.directives
       ++ (flat_map (variable_faults F2 owner) o.variables ++ set_visit F4 owner parent o.selections))))) answer
-      ∙ ap (λ f. f0 ++ (p03.faults owner o ++ (p05.faults F owner o ++ (directives_faults f owner (location_of o.kind) o.directives
+      ∙ ap (λ f. f0 ++ (p03.faults F owner o ++ (p05.faults F owner o ++ (directives_faults f owner (location_of o.kind) o.directives
       ++ (flat_map (variable_faults F2 owner) o.variables ++ set_visit F4 owner parent o.selections))))) s1
-      ∙ ap (λ f. f0 ++ (p03.faults owner o ++ (p05.faults F owner o ++ (directives_faults F owner (location_of o.kind) o.directives
+      ∙ ap (λ f. f0 ++ (p03.faults F owner o ++ (p05.faults F owner o ++ (directives_faults F owner (location_of o.kind) o.directives
       ++ (flat_map (variable_faults f owner) o.variables ++ set_visit F4 owner parent o.selections))))) s2
-      ∙ ap (λ f. f0 ++ (p03.faults owner o ++ (p05.faults F owner o ++ (directives_faults F owner (location_of o.kind) o.directives
+      ∙ ap (λ f. f0 ++ (p03.faults F owner o ++ (p05.faults F owner o ++ (directives_faults F owner (location_of o.kind) o.directives
       ++ (flat_map (variable_faults F owner) o.variables ++ set_visit f owner parent o.selections))))) s4
-      ∙ ap (λ p. f0 ++ (p03.faults owner o ++ (p05.faults F owner o ++ (directives_faults F owner (location_of o.kind) o.directives
+      ∙ ap (λ p. f0 ++ (p03.faults F owner o ++ (p05.faults F owner o ++ (directives_faults F owner (location_of o.kind) o.directives
       ++ (flat_map (variable_faults F owner) o.variables ++ set_visit F owner p o.selections)))))
       (entered ∙ ap (λ f. composite f selected) s3 ∙ ap (composite F) (chosen ∙ ap (selected_by o.kind) answer))

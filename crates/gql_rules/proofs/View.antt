@@ -1,5 +1,5 @@
 -- Facts that agree on what a definition reads give it the same faults.
-use Rattle.std.specs.Prelude.{◌≡◌, ◌↔◌, ◌&&◌, ℕ, List, [], ◌∷◌, ◌++◌, map, flat_map, refl, Bool, true, false, bytes_eq, Option, Some, None, Contains, if◌then◌else◌}
+use Rattle.std.specs.Prelude.{◌≡◌, ◌↔◌, ◌&&◌, ℕ, List, [], ◌∷◌, ◌++◌, map, flat_map, refl, Bool, true, false, bytes_eq, is_some, Option, Some, None, Contains, if◌then◌else◌}
 use Rattle.std.proofs.Common.{ap, sym, ◌∙◌, subst}
 use Rattle.std.proofs.lemmas.List.Elements.{Contains-append_left, Contains-append_right}
 use Rattle.gql_ast.specs.declared.definition.Definition.{Definition}
@@ -21,9 +21,10 @@ use Rattle.gql_ast.specs.declared.literal.Literal.{Literal}
 use Rattle.gql_ast.specs.declared.text.Name.{Name}
 use Rattle.gql_ast.specs.declared.type_system.DirectiveLocation.{DirectiveLocation}
 use Rattle.gql_ast.specs.declared.type_system.DirectiveLocation.TheVariants as location
+use Rattle.gql_facts.specs.Floats.{float_read, is_open_in}
 use Rattle.gql_facts.specs.ListMembers.{Contains-here, Contains-there, found_in}
 use Rattle.gql_facts.specs.Nodes.{field, inline, spread, field_node, inline_node, composite, field_type, field_type_in, is_composite_fact, parent_below, parent_within, root_in}
-use Rattle.gql_facts.specs.OwnReads.{own_reads, operation_reads, fragment_reads, composite_reads, field_reads, condition_reads, directive_reads, variable_reads, set_scan, selection_scan, field_scan, inline_scan, spread_scan, selected_root, selected_by, root_parent}
+use Rattle.gql_facts.specs.OwnReads.{own_reads, executable_reads, operation_reads, fragment_reads, composite_reads, field_reads, condition_reads, directive_reads, variable_reads, set_scan, selection_scan, field_scan, inline_scan, spread_scan, selected_root, selected_by, root_parent}
 use Rattle.gql_facts.specs.Reads.{own, of_fragment, of_type, by_definition, Reads, Agree, types_in, input_types, type_reads}
 use Rattle.gql_facts.specs.Worlds.{Facts}
 use Rattle.gql_types.specs.WrittenTypes.{named_type, typed_of}
@@ -62,6 +63,7 @@ use Rattle.gql_rules.proofs.Visiting.{of_field, of_inline, of_spread, visit_cons
 module _ (P : Key → Type 0) (v u : Facts) (owner : FilePlace)
     (agree : (k : Key) → P k → u k ≡ v k)
     (closed : (j k : Key) (t : List ℕ) → P j → Contains (types_in (v j)) t → Contains (type_reads t) k → P k)
+    (float : P float_read)
   where
     -- u answers as v does to the keys of P, and P has what is asked of each type that an answer in it
     -- names
@@ -107,9 +109,10 @@ module _ (P : Key → Type 0) (v u : Facts) (owner : FilePlace)
     -- what an input type is stays
     input_same : (t : List ℕ) → AsksInput t → known_inputs u t ≡ known_inputs v t
     input_same t asked =
-        ap (λ f. form_by t (kind_in f) (u (key.InputOf t)) (u (key.EnumOf t))) (agree (key.KindOf t) asked.0)
-        ∙ ap (λ f. form_by t (kind_of v t) f (u (key.EnumOf t))) (agree (key.InputOf t) asked.1.0)
-        ∙ ap (λ f. form_by t (kind_of v t) (v (key.InputOf t)) f) (agree (key.EnumOf t) asked.1.1)
+        ap (λ f. form_by (is_some (kind_in f)) t (kind_of u t) (u (key.InputOf t)) (u (key.EnumOf t))) (agree float_read float)
+        ∙ ap (λ f. form_by (is_open_in v) t (kind_in f) (u (key.InputOf t)) (u (key.EnumOf t))) (agree (key.KindOf t) asked.0)
+        ∙ ap (λ f. form_by (is_open_in v) t (kind_of v t) f (u (key.EnumOf t))) (agree (key.InputOf t) asked.1.0)
+        ∙ ap (λ f. form_by (is_open_in v) t (kind_of v t) (v (key.InputOf t)) f) (agree (key.EnumOf t) asked.1.1)
 
     -- each type that an input type leads to is asked
     led_to : (w : Written) (n : List ℕ) → AsksInput (name_in w) → LeadsTo (known_inputs v) w n → AsksInput n
@@ -436,13 +439,13 @@ module _ (P : Key → Type 0) (v u : Facts) (owner : FilePlace)
         let more = second ds (vars ++ scan) others in
         let parent : root_parent u o.kind ≡ root_parent v o.kind = ap (λ f. composite u (selected_by o.kind f)) root ∙ composite_same r asked in
         let aims : Targets scan = after vars scan (after ds (vars ++ scan) (after (composite_reads r) (ds ++ (vars ++ scan)) (after (k ∷ []) (composite_reads r ++ (ds ++ (vars ++ scan))) targets))) in
-        let p3 = p03.faults owner o in
+        let p3 = p03.faults v owner o in
         let p5 = p05.faults v owner o in
         let du = directives_faults u owner (location_of o.kind) o.directives in
         let dv = directives_faults v owner (location_of o.kind) o.directives in
         let vu = flat_map (variable_faults u owner) o.variables in
         let vv = flat_map (variable_faults v owner) o.variables in
-        ap (λ f. p3 ++ (p05.faults_by owner o o.kind (root_in f) ++ (du ++ (vu ++ set_visit u owner (root_parent u o.kind) o.selections)))) root
+        ap (λ f. p03.faults_by owner o o.kind (root_in f) ++ (p05.faults_by owner o o.kind (root_in f) ++ (du ++ (vu ++ set_visit u owner (root_parent u o.kind) o.selections)))) root
         ∙ ap (λ l. p3 ++ (p5 ++ (l ++ (vu ++ set_visit u owner (root_parent u o.kind) o.selections)))) (directives_same (location_of o.kind) o.directives (first ds (vars ++ scan) others))
         ∙ ap (λ l. p3 ++ (p5 ++ (dv ++ (l ++ set_visit u owner (root_parent u o.kind) o.selections)))) (variables_same o.variables (first vars scan more))
         ∙ ap (λ q. p3 ++ (p5 ++ (dv ++ (vv ++ set_visit u owner q o.selections)))) parent
@@ -452,7 +455,10 @@ module _ (v u : Facts) (d : Definition) (agree : Agree v u d) where
   closed : (j k : Key) (t : List ℕ) → Reads v d j → Contains (types_in (v j)) t → Contains (type_reads t) k → Reads v d k
   closed j k t asked named has = of_type asked named has
 
-  aims : Targets (Reads v d) v u (owner_of d) agree closed (own_reads v d)
+  float : Reads v d float_read
+  float = own (Contains-here float_read (executable_reads v d.tree))
+
+  aims : Targets (Reads v d) v u (owner_of d) agree closed float (own_reads v d)
   aims n g h is = agree (key.PossibleOf g.fragment.condition.text)
       (of_fragment (by_definition h is) (Contains-append_left (composite_reads (Some g.fragment.condition.text))
       (directive_reads g.fragment.directives ++ set_scan v (composite v (Some g.fragment.condition.text)) g.fragment.selections) (key.PossibleOf g.fragment.condition.text)
@@ -460,12 +466,12 @@ module _ (v u : Facts) (d : Definition) (agree : Agree v u d) where
       (Contains-here (key.PossibleOf g.fragment.condition.text) []))))
 
   tree_same : (t : Tree) → d.tree ≡ t → tree_faults u (owner_of d) t ≡ tree_faults v (owner_of d) t
-  tree_same (tree.Operation o) is = operation_same (Reads v d) v u (owner_of d) agree closed o (λ k h. own (at k h)) (λ n g h. aims n g (at (key.FragmentOf n) h)) where
+  tree_same (tree.Operation o) is = operation_same (Reads v d) v u (owner_of d) agree closed float o (λ k h. own (at k h)) (λ n g h. aims n g (at (key.FragmentOf n) h)) where
     at : (k : Key) → Contains (operation_reads v o) k → Contains (own_reads v d) k
-    at k h = subst (λ t. Contains (own_reads v (record { file = d.file; tree = t })) k) (sym is) h
-  tree_same (tree.Fragment f) is = fragment_same (Reads v d) v u (owner_of d) agree closed f (λ k h. own (at k h)) (λ n g h. aims n g (at (key.FragmentOf n) h)) where
+    at k h = subst (λ t. Contains (own_reads v (record { file = d.file; tree = t })) k) (sym is) (Contains-there k float_read (operation_reads v o) h)
+  tree_same (tree.Fragment f) is = fragment_same (Reads v d) v u (owner_of d) agree closed float f (λ k h. own (at k h)) (λ n g h. aims n g (at (key.FragmentOf n) h)) where
     at : (k : Key) → Contains (fragment_reads v f) k → Contains (own_reads v d) k
-    at k h = subst (λ t. Contains (own_reads v (record { file = d.file; tree = t })) k) (sym is) h
+    at k h = subst (λ t. Contains (own_reads v (record { file = d.file; tree = t })) k) (sym is) (Contains-there k float_read (fragment_reads v f) h)
   tree_same (tree.Schema x) is = refl
   tree_same (tree.Type x) is = refl
   tree_same (tree.Directive x) is = refl

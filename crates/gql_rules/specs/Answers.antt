@@ -13,13 +13,9 @@ use Rattle.gql_facts.specs.declared.key.Key.TheVariants as key
 use Rattle.gql_types.specs.declared.written_type.Wrapper.{Wrapper}
 use Rattle.gql_types.specs.declared.written_type.Wrapper.TheVariants as wrapper
 use Rattle.gql_facts.specs.Worlds.{Facts}
+pub use Rattle.gql_facts.specs.Floats.{kind_in}
 
 -- ---- what an answer says
-
--- the kind of a type, as an answer gives it
-abbrev pub kind_in : Fact → Option TypeKind
-kind_in (fact.Kind kind) = Some kind
-kind_in _ = None
 
 -- the field definition that an answer gives
 abbrev pub field_in : Fact → Option FieldFact

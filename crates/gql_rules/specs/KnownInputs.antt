@@ -1,9 +1,10 @@
 -- What each name is as an input type, by the answers of a world (GraphQL 3.4.2, 3.5, 3.9 and 3.10).
-use Rattle.std.specs.Prelude.{ℕ, List, map, Option, Some, None}
+use Rattle.std.specs.Prelude.{ℕ, List, map, Bool, Option, Some, None}
 use Rattle.std.specs.Option.{option_map}
 use Rattle.gql_types.specs.WrittenTypes.{typed_of}
 use Rattle.gql_types.specs.declared.kind.TypeKind.{TypeKind}
 use Rattle.gql_types.specs.declared.kind.TypeKind.TheVariants as kind
+use Rattle.gql_facts.specs.Floats.{is_open_in}
 use Rattle.gql_facts.specs.Worlds.{Facts}
 use Rattle.gql_facts.specs.declared.fact.Fact.{Fact}
 use Rattle.gql_facts.specs.declared.fact.Fact.TheVariants as fact
@@ -44,14 +45,14 @@ form_of (known.Enum values) = enumeration values
 form_of (known.InputObject fields) = object_of fields
 
 -- the type of this name and this kind; the two answers give the fields of an input object and the
--- values of an enum
-abbrev pub form_by : List ℕ → Option TypeKind → Fact → Fact → Option InputForm
-form_by name (Some kind.Scalar) fields values = Some (scalar (scalar_named name))
-form_by name (Some kind.Enum) fields values = option_map enumeration (values_in values)
-form_by name (Some kind.InputObject) fields values = option_map object_of (fields_in fields)
-form_by name _ fields values = None
+-- values of an enum, and a custom scalar is open where Float is a type
+abbrev pub form_by : Bool → List ℕ → Option TypeKind → Fact → Fact → Option InputForm
+form_by floats name (Some kind.Scalar) fields values = Some (scalar (scalar_named floats name))
+form_by floats name (Some kind.Enum) fields values = option_map enumeration (values_in values)
+form_by floats name (Some kind.InputObject) fields values = option_map object_of (fields_in fields)
+form_by floats name _ fields values = None
 
 -- what each name is as an input type
 abbrev pub known_inputs : Facts → InputLookup
-known_inputs facts name = form_by name (kind_of facts name) (facts (key.InputOf name))
-    (facts (key.EnumOf name))
+known_inputs facts name = form_by (is_open_in facts) name (kind_of facts name)
+    (facts (key.InputOf name)) (facts (key.EnumOf name))

@@ -131,7 +131,7 @@ variable_faults facts owner v = values.faults_of_variable facts owner v
 
 -- the faults of an operation
 abbrev pub operation_faults : Facts → FilePlace → Operation → List Fault
-operation_faults facts owner o = p03.faults owner o
+operation_faults facts owner o = p03.faults facts owner o
     ++ (p05.faults facts owner o
     ++ (directives_faults facts owner (location_of o.kind) o.directives
     ++ (flat_map (variable_faults facts owner) o.variables

@@ -1,15 +1,17 @@
 //! The input types that a world knows.
 ghost use Rattle.std.specs.Prelude.{◌≡◌, ◌<◌, ℕ, List, Some, IfOk, option_map, bytes_eq, map, filter, length, slice_get};
 ghost use Rattle.std.specs.List.{list_any};
+ghost use Rattle.gql_facts.specs.Floats.{is_open_in};
 ghost use Rattle.gql_facts.specs.Worlds.{Facts};
+ghost use Rattle.gql_inputs.specs.InputTypes.{scalar_named as the_scalar_named};
 ghost use Rattle.gql_inputs.specs.Lookups as lookups;
 ghost use Rattle.gql_rules.specs.KnownInputs as spec;
 
 use crate::asking::kind_of;
 use gql_ast::{Shared, Text};
-use gql_facts::{Fact, InputFact, Key, World};
+use gql_facts::{Fact, InputFact, Key, World, is_open};
 use gql_inputs::{
-    ExpectedType, InputField, InputKind, InputType, InputTypes, Scalar, scalar_named,
+    ExpectedType, InputField, InputKind, InputType, InputTypes, Scalar, custom_scalar, scalar_named,
 };
 use gql_types::{DefinedInputs, Named, TypeKind};
 use std::alloc::{AllocError, Global};
@@ -126,6 +128,21 @@ fn object_in(fact: &Fact) -> Result<Option<KnownInputType>, AllocError>
     }
 }
 
+/// The scalar of a name. Whether Float is a type is asked for a custom one only.
+#[tactic(auto, using(gql_inputs::proofs::Customs::named_by_others))]
+fn known_scalar<W: World>(alloc: Global, world: &mut W, name: &Text) -> Result<Scalar, AllocError>
+    ensures facts { W.facts world.new ≡ W.facts world.old }
+    ensures names { W.names world.new ≡ W.names world.old }
+    ensures lent { W.lent world.new ≡ W.lent world.old }
+    ensures answer { IfOk result (λ s. s
+        ≡ the_scalar_named (is_open_in (W.facts world.old)) name.now) }
+{
+    match scalar_named(false, name.as_str()) {
+        Scalar::Custom | Scalar::Open => Ok(custom_scalar(is_open(alloc, world)?)),
+        built_in => Ok(built_in),
+    }
+}
+
 /// The input type of a name.
 fn known_input<W: World>(
     alloc: Global,
@@ -139,7 +156,7 @@ fn known_input<W: World>(
         ≡ spec.known_inputs (W.facts world.old) name.now) }
 {
     let found = match kind_of(alloc, world, name)? {
-        Some(TypeKind::Scalar) => Some(KnownInputType::Scalar(scalar_named(name.as_str()))),
+        Some(TypeKind::Scalar) => Some(KnownInputType::Scalar(known_scalar(alloc, world, name)?)),
         Some(TypeKind::Enum) => enum_in(&world.fact(alloc, &Key::EnumOf(name.copy()?))?)?,
         Some(TypeKind::InputObject) => object_in(&world.fact(alloc, &Key::InputOf(name.copy()?))?)?,
         Some(TypeKind::Object | TypeKind::Interface | TypeKind::Union) | None => None,

@@ -1,7 +1,6 @@
 //! The faults of an operation.
 ghost use Rattle.std.specs.Prelude.{◌≡◌, ◌++◌, IfOk, OnOk, flat_map};
 ghost use Rattle.gql_facts.specs.Nodes as nodes;
-ghost use Rattle.gql_facts.specs.OwnReads as reads;
 ghost use Rattle.gql_rules.specs.LocalFaults as spec;
 
 use crate::asking::kind_of;
@@ -9,22 +8,18 @@ use crate::conditions::composite_by;
 use crate::locations::location_of;
 use crate::visit::visit_set;
 use crate::{directives, p03_subscriptions, p05_mutations_without_a_root, v18_to_v21_values};
-use gql_ast::{
-    DirectiveLocation, Fault, FilePlace, Operation, OperationKind, Text, VariableDefinition,
-};
+use gql_ast::{DirectiveLocation, Fault, FilePlace, Operation, Text, VariableDefinition};
 use gql_facts::{Fact, Key, World};
 use std::alloc::{AllocError, Global};
 
-/// The name of the type that an operation selects from, by the answer for its kind.
-fn selected_by(kind: OperationKind, root: &Fact) -> Result<Option<Text>, AllocError>
-    ensures { IfOk result (λ t. t ≡ reads.selected_by kind root.now) }
+/// The name of the type that an operation selects from, by the answer for the root operation type of
+/// its kind.
+fn selected_by(root: &Fact) -> Result<Option<Text>, AllocError>
+    ensures { IfOk result (λ t. t ≡ nodes.root_in root.now) }
 {
-    match kind {
-        OperationKind::Subscription => Ok(None),
-        OperationKind::Query | OperationKind::Mutation => match root {
-            Fact::Root(name) => Ok(Some(name.get().copy()?)),
-            _ => Ok(None),
-        },
+    match root {
+        Fact::Root(name) => Ok(Some(name.get().copy()?)),
+        _ => Ok(None),
     }
 }
 
@@ -100,12 +95,12 @@ pub fn check<W: World>(
         ++ spec.operation_faults (W.facts world.old) owner.now operation.now) }
 {
     let root = world.fact(alloc, &Key::RootOf(operation.kind))?;
-    p03_subscriptions::check(alloc, owner, operation, faults)?;
+    p03_subscriptions::check(alloc, owner, operation, &root, faults)?;
     p05_mutations_without_a_root::check(alloc, owner, operation, &root, faults)?;
     let (at, applied) = (location_of(operation.kind), operation.directives.as_slice());
     directives::check(alloc, world, owner, at, applied, faults)?;
     check_variables(alloc, world, owner, operation.variables.as_slice(), faults)?;
-    let selected = selected_by(operation.kind, &root)?;
+    let selected = selected_by(&root)?;
     let parent = composite(alloc, world, &selected)?;
     visit_set(
         alloc,

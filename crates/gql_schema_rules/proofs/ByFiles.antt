@@ -46,14 +46,14 @@ by_checks s files checks f law are =
       λ h. elim h [ inl own ↦ both.1 (inl (found own)) | inr joint ↦ both.1 (inr joint) ],
     )
 
-pub all_by_files : (files : Files) (s : Schema) (checks : List (List ℕ × FileCheck)) (others all : List Fault) → Law → AreOthers (nodes_in files) s others
+pub all_by_files : (files : Files) (s : Schema) (checks : List (List ℕ × FileCheck)) (others all : List Fault) → Law → AreOthers files s others
     → all ≡ faults_in checks ++ others → AreChecksOf s files.schema checks → (f : Fault) → Contains all f ↔ FaultsBy files s f
 all_by_files files s checks others all law are joined checked f =
     let n = nodes_in files in
-    let whole : all ≡ faults_in checks ++ ((((are.interfaces ++ joint_faults n s) ++ definition_faults n s) ++ type_faults s) ++ root_faults n s) =
+    let whole : all ≡ faults_in checks ++ ((((are.interfaces ++ joint_faults n s) ++ definition_faults n s) ++ type_faults s) ++ root_faults files n s) =
     subst (λ os. all ≡ faults_in checks ++ os) are.joined joined in
-    let same = regrouped f (faults_in checks) are.interfaces (joint_faults n s) (node_faults n s) (definition_faults n s) (type_faults s) (root_faults n s) (by_checks s files checks f law checked) in
-    let all_rules = together files s are.interfaces ((((are.interfaces ++ node_faults n s) ++ definition_faults n s) ++ type_faults s) ++ root_faults n s) are.sound are.complete refl f in (
+    let same = regrouped f (faults_in checks) are.interfaces (joint_faults n s) (node_faults n s) (definition_faults n s) (type_faults s) (root_faults files n s) (by_checks s files checks f law checked) in
+    let all_rules = together files s are.interfaces ((((are.interfaces ++ node_faults n s) ++ definition_faults n s) ++ type_faults s) ++ root_faults files n s) are.sound are.complete refl f in (
       λ h. all_rules.0 (same.0 (subst (λ xs. Contains xs f) whole h)),
       λ h. subst (λ xs. Contains xs f) (sym whole) (same.1 (all_rules.1 h)),
     )

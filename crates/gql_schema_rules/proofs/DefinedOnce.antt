@@ -1,11 +1,14 @@
 -- Where a schema has as many types as its files define, and as are built in, no two definitions have one name.
-use Rattle.std.proofs.Common.{◌≡◌, ◌∙◌, ◌++◌, ◌+◌, ◌≤◌, ◌||◌, ℕ, suc, List, [], ◌∷◌, Bool, true, false, not, codes, Option, filter, flat_map, map, length, bytes_eq, refl, sym, ap, ap₂, subst, arith}
+use Rattle.std.proofs.Common.{◌≡◌, ◌∙◌, ◌++◌, ◌+◌, ◌≤◌, ◌||◌, ℕ, suc, List, [], ◌∷◌, Bool, true, false, not, codes, Option, Some, None, filter, flat_map, map, length, bytes_eq, is_some, refl, sym, ap, ap₂, subst, arith}
+use Rattle.std.specs.List.{AllByRecursion}
 use Rattle.std.proofs.lemmas.List.{length-append, length-map}
 use Rattle.std.proofs.lemmas.List.Concat.{flat_map-append}
 use Rattle.std.proofs.lemmas.List.Elements.{filter-append}
 use Rattle.std.proofs.lemmas.List.Filters.{length-filter_both}
 use Rattle.std.proofs.lemmas.List.Sums.{count_by-le-length, length-filter}
 use Rattle.std.proofs.lemmas.Slice.Eq.{bytes_eq-Decides}
+use Rattle.gql_ast.specs.declared.definition.Definition.{Definition}
+use Rattle.gql_ast.specs.declared.definition.Document.{Document}
 use Rattle.gql_ast.specs.declared.definition.Tree.{Tree}
 use Rattle.gql_ast.specs.declared.definition.Tree.TheVariants as tree
 use Rattle.gql_ast.specs.declared.text.Name.{Name}
@@ -14,7 +17,7 @@ use Rattle.gql_built_in.specs.BuiltIn.{built_in, scalars, introspection, type_ki
 use Rattle.gql_built_in.specs.BuiltInWords.{directive, of_no_file, type_of as type_in_words, word}
 use Rattle.gql_built_in.specs.declared.sited.Sited.{Sited}
 use Rattle.gql_faults.specs.Names.{count_of}
-use Rattle.gql_types.specs.Definitions.{names_a_type, type_definitions, type_extensions, type_in}
+use Rattle.gql_types.specs.Definitions.{in_order_of, names_a_type, of_files, type_definitions, type_extensions, type_in}
 use Rattle.gql_types.specs.Parts.{sited}
 use Rattle.gql_types.specs.Schemas.{types_in}
 use Rattle.gql_types.specs.Types.{assembled, extensions_of, first_definitions}
@@ -86,16 +89,16 @@ once q (d ∷ ds) e =
 -- ---- definitions of files
 
 abbrev names_one : Sited TypeDefinition → Bool
-names_one d = names_a_type d.node.name.text
+names_one d = names_a_type d.file d.node.name.text
 
-by_name : (file : Option (List ℕ)) (definition : TypeDefinition) (ds : List (Sited Tree)) (b : Bool) → names_a_type definition.name.text ≡ b → type_definitions ds ≡ filter names_one (types ds)
+by_name : (file : Option (List ℕ)) (definition : TypeDefinition) (ds : List (Sited Tree)) (b : Bool) → names_a_type file definition.name.text ≡ b → type_definitions ds ≡ filter names_one (types ds)
     → type_in file (tree.Type definition) ++ type_definitions ds ≡ filter names_one (sited file (type_of (tree.Type definition)) ++ types ds)
 by_name file definition ds true is rest = rw is (ap (λ xs. record { file = file; node = definition } ∷ xs) rest)
 by_name file definition ds false is rest = rw is rest
 
 one_tree : (file : Option (List ℕ)) (t : Tree) (ds : List (Sited Tree)) → type_definitions ds ≡ filter names_one (types ds)
     → type_in file t ++ type_definitions ds ≡ filter names_one (sited file (type_of t) ++ types ds)
-one_tree file (tree.Type definition) ds rest = by_name file definition ds (names_a_type definition.name.text) refl rest
+one_tree file (tree.Type definition) ds rest = by_name file definition ds (names_a_type file definition.name.text) refl rest
 one_tree file (tree.Operation operation) ds rest = rest
 one_tree file (tree.Fragment fragment) ds rest = rest
 one_tree file (tree.Schema definition) ds rest = rest
@@ -107,9 +110,35 @@ in_files : (ds : List (Sited Tree)) → type_definitions ds ≡ filter names_one
 in_files [] = refl
 in_files (d ∷ ds) = one_tree d.file d.node ds (in_files ds)
 
-count_built_in : length (type_definitions built_in) ≡ 12
+-- each of these definitions is in a file, where that of Float names no type
+abbrev AreInFiles : List (Sited TypeDefinition) → Type 0
+AreInFiles = AllByRecursion (λ (d : Sited TypeDefinition). is_some d.file ≡ true)
+
+in_a_file : (file : List ℕ) (t : Tree) (ds : List (Sited TypeDefinition)) → AreInFiles ds → AreInFiles (sited (Some file) (type_of t) ++ ds)
+in_a_file file (tree.Type definition) ds rest = (refl, rest)
+in_a_file file (tree.Operation operation) ds rest = rest
+in_a_file file (tree.Fragment fragment) ds rest = rest
+in_a_file file (tree.Schema definition) ds rest = rest
+in_a_file file (tree.Directive definition) ds rest = rest
+in_a_file file (tree.SchemaExtension extension) ds rest = rest
+in_a_file file (tree.TypeExtension extension) ds rest = rest
+
+before_files : (definitions : List Definition) (ds : List (Sited Tree)) → AreInFiles (types ds) → AreInFiles (types (in_order_of definitions ++ ds))
+before_files [] ds rest = rest
+before_files (d ∷ definitions) ds rest = in_a_file d.file d.tree (types (in_order_of definitions ++ ds)) (before_files definitions ds rest)
+
+pub are_in_files : (files : List (List ℕ × Document)) → AreInFiles (types (of_files files))
+are_in_files [] = tt
+are_in_files (f ∷ files) = before_files f.1.definitions (of_files files) (are_in_files files)
+
+-- how many types are built in
+pub count_with_float : length (type_definitions (built_in true)) ≡ 13
 unfolding built_in scalars introspection type_kinds directive_locations directives skip include deprecated specified_by append type_in_words directive of_no_file word
-count_built_in = refl
+count_with_float = refl
+
+pub count_without_float : length (type_definitions (built_in false)) ≡ 12
+unfolding built_in scalars introspection type_kinds directive_locations directives skip include deprecated specified_by append type_in_words directive of_no_file word
+count_without_float = refl
 
 named_step : (q : List ℕ) (d : Sited TypeDefinition) (ds : List (Sited TypeDefinition)) (b : Bool) → bytes_eq q d.node.name.text ≡ b
     → length (filter (λ (n : Sited Name). bytes_eq q n.node.text) (each (λ (x : TypeDefinition). x.name) ds)) ≡ length (filter (is_named q) ds)
@@ -123,26 +152,30 @@ named_times q (d ∷ ds) = named_step q d ds (bytes_eq q d.node.name.text) refl 
 
 -- ---- names of built-in scalars
 
-count_int : length (filter (is_named (codes "Int")) (type_definitions built_in)) ≡ 1
+count_int : (floats : Bool) → length (filter (is_named (codes "Int")) (type_definitions (built_in floats))) ≡ 1
 unfolding built_in scalars introspection type_kinds directive_locations directives skip include deprecated specified_by append type_in_words directive of_no_file word
-count_int = refl
+count_int true = refl
+count_int false = refl
 
-count_string : length (filter (is_named (codes "String")) (type_definitions built_in)) ≡ 1
+count_string : (floats : Bool) → length (filter (is_named (codes "String")) (type_definitions (built_in floats))) ≡ 1
 unfolding built_in scalars introspection type_kinds directive_locations directives skip include deprecated specified_by append type_in_words directive of_no_file word
-count_string = refl
+count_string true = refl
+count_string false = refl
 
-count_boolean : length (filter (is_named (codes "Boolean")) (type_definitions built_in)) ≡ 1
+count_boolean : (floats : Bool) → length (filter (is_named (codes "Boolean")) (type_definitions (built_in floats))) ≡ 1
 unfolding built_in scalars introspection type_kinds directive_locations directives skip include deprecated specified_by append type_in_words directive of_no_file word
-count_boolean = refl
+count_boolean true = refl
+count_boolean false = refl
 
-count_id : length (filter (is_named (codes "ID")) (type_definitions built_in)) ≡ 1
+count_id : (floats : Bool) → length (filter (is_named (codes "ID")) (type_definitions (built_in floats))) ≡ 1
 unfolding built_in scalars introspection type_kinds directive_locations directives skip include deprecated specified_by append type_in_words directive of_no_file word
-count_id = refl
+count_id true = refl
+count_id false = refl
 
 -- whether a name is that of a built-in scalar, one after the other
 abbrev is_any : List ℕ → Bool
-is_any q = (bytes_eq q (codes "Int") || (bytes_eq q (codes "String") || (bytes_eq q (codes "Boolean") || (bytes_eq q (codes "ID") || false))))
-    || bytes_eq q (codes "Float")
+is_any q = bytes_eq q (codes "Int") || (bytes_eq q (codes "String") || (bytes_eq q (codes "Boolean") || (bytes_eq q (codes "ID")
+    || (bytes_eq q (codes "Float") || false))))
 
 scalar_names : (q : List ℕ) → is_scalar_name q ≡ is_any q
 unfolding scalars type_in_words word
@@ -164,56 +197,67 @@ turned a b e = by (bytes_eq b a) refl
     by true is = absurd (cc (sym (subst (λ z. bytes_eq a z ≡ true) (sym ((bytes_eq-Decides b a).0 is)) ((bytes_eq-Decides a a).1 refl)) ∙ e))
     by false is = is
 
+-- a definition in a file that passes is not that of Float
+not_float : (file : Option (List ℕ)) (name : List ℕ) → is_some file ≡ true → names_a_type file name ≡ true → bytes_eq name (codes "Float") ≡ false
+not_float None name placed passes = absurd (cc placed)
+not_float (Some file) name placed passes = turned_off (bytes_eq name (codes "Float")) passes
+  where
+    turned_off : (b : Bool) → not b ≡ true → b ≡ false
+    turned_off true e = absurd (cc e)
+    turned_off false e = refl
+
 -- a definition that passes is kept first
 kept_first : (d : Sited TypeDefinition) (ds : List (Sited TypeDefinition)) → filter names_one (d ∷ ds) ≡ d ∷ ds
-    → (bytes_eq d.node.name.text (codes "Float") ≡ false) × (filter names_one ds ≡ ds)
-kept_first d ds e = by (bytes_eq d.node.name.text (codes "Float")) refl
+    → (names_one d ≡ true) × (filter names_one ds ≡ ds)
+kept_first d ds e = by (names_one d) refl
   where
-    by : (b : Bool) → bytes_eq d.node.name.text (codes "Float") ≡ b → (bytes_eq d.node.name.text (codes "Float") ≡ false) × (filter names_one ds ≡ ds)
-    by true is =
+    by : (b : Bool) → names_one d ≡ b → (names_one d ≡ true) × (filter names_one ds ≡ ds)
+    by false is =
         let e' : filter names_one ds ≡ d ∷ ds = rw is at e in
         absurd (omega (arith, ap length e', filter_short names_one ds))
-    by false is = let e' : d ∷ filter names_one ds ≡ d ∷ ds = rw is at e in (is, cc e')
+    by true is = let e' : d ∷ filter names_one ds ≡ d ∷ ds = rw is at e in (is, cc e')
 
-none_at_fault : (ds : List (Sited TypeDefinition))
+none_at_fault : (ds : List (Sited TypeDefinition)) → AreInFiles ds
     → length (filter (is_named (codes "Int")) ds) ≡ 0 → length (filter (is_named (codes "String")) ds) ≡ 0
     → length (filter (is_named (codes "Boolean")) ds) ≡ 0 → length (filter (is_named (codes "ID")) ds) ≡ 0
     → filter names_one ds ≡ ds → flat_map fault_of_type (each (λ (d : TypeDefinition). d.name) ds) ≡ []
-none_at_fault [] ints strings booleans ids floats = refl
-none_at_fault (d ∷ ds) ints strings booleans ids floats =
+none_at_fault [] placed ints strings booleans ids floats = refl
+none_at_fault (d ∷ ds) placed ints strings booleans ids floats =
     let q = d.node.name.text in
     let i = left_out (codes "Int") d ds ints in
     let s = left_out (codes "String") d ds strings in
     let b = left_out (codes "Boolean") d ds booleans in
     let n = left_out (codes "ID") d ds ids in
     let f = kept_first d ds floats in
+    let plain = not_float d.file q placed.0 f.0 in
     let none : is_scalar_name q ≡ false = scalar_names q
-    ∙ rw (turned (codes "Int") q i.0, turned (codes "String") q s.0, turned (codes "Boolean") q b.0, turned (codes "ID") q n.0, f.0) refl in
-    rw none (none_at_fault ds i.1 s.1 b.1 n.1 f.1)
+    ∙ rw (turned (codes "Int") q i.0, turned (codes "String") q s.0, turned (codes "Boolean") q b.0, turned (codes "ID") q n.0, plain) refl in
+    rw none (none_at_fault ds placed.1 i.1 s.1 b.1 n.1 f.1)
 
-module _ (ds : List (Sited Tree)) (is : length (types ds) + 12 ≡ length (types_in (built_in ++ ds))) where
+module _ (floats : Bool) (ds : List (Sited Tree)) (placed : AreInFiles (types ds))
+    (is : length (types ds) + length (type_definitions (built_in floats)) ≡ length (types_in (built_in floats ++ ds))) where
   abbrev built : List (Sited TypeDefinition)
-  built = type_definitions built_in
+  built = type_definitions (built_in floats)
 
-  joined : type_definitions (built_in ++ ds) ≡ built ++ type_definitions ds
-  joined = flat_map-append (λ (d : Sited Tree). type_in d.file d.node) built_in ds
+  joined : type_definitions (built_in floats ++ ds) ≡ built ++ type_definitions ds
+  joined = flat_map-append (λ (d : Sited Tree). type_in d.file d.node) (built_in floats) ds
 
-  in_all : length (type_definitions (built_in ++ ds)) ≡ 12 + length (type_definitions ds)
-  in_all = ap length joined ∙ length-append built (type_definitions ds) ∙ ap (λ n. n + length (type_definitions ds)) count_built_in
+  in_all : length (type_definitions (built_in floats ++ ds)) ≡ length built + length (type_definitions ds)
+  in_all = ap length joined ∙ length-append built (type_definitions ds)
 
-  firsts : length (types_in (built_in ++ ds)) ≡ length (first_definitions (type_definitions (built_in ++ ds)))
-  firsts = length-map (first_definitions (type_definitions (built_in ++ ds))) (λ (d : Sited TypeDefinition). assembled d (extensions_of (type_extensions (built_in ++ ds)) d))
+  firsts : length (types_in (built_in floats ++ ds)) ≡ length (first_definitions (type_definitions (built_in floats ++ ds)))
+  firsts = length-map (first_definitions (type_definitions (built_in floats ++ ds))) (λ (d : Sited TypeDefinition). assembled d (extensions_of (type_extensions (built_in floats ++ ds)) d))
 
   fewer : length (type_definitions ds) ≤ length (types ds)
   fewer = subst (λ xs. length xs ≤ length (types ds)) (sym (in_files ds)) (filter_short names_one (types ds))
 
-  all_types : length (first_definitions (type_definitions (built_in ++ ds))) ≡ length (type_definitions (built_in ++ ds))
-  all_types = omega (arith, is, firsts, in_all, fewer, first_short (type_definitions (built_in ++ ds)))
+  all_types : length (first_definitions (type_definitions (built_in floats ++ ds))) ≡ length (type_definitions (built_in floats ++ ds))
+  all_types = omega (arith, is, firsts, in_all, fewer, first_short (type_definitions (built_in floats ++ ds)))
 
   no_float : length (filter names_one (types ds)) ≡ length (types ds)
   no_float =
       let same : length (type_definitions ds) ≡ length (filter names_one (types ds)) = ap length (in_files ds) in
-      omega (arith, is, firsts, in_all, fewer, same, first_short (type_definitions (built_in ++ ds)))
+      omega (arith, is, firsts, in_all, fewer, same, first_short (type_definitions (built_in floats ++ ds)))
 
   these : type_definitions ds ≡ types ds
   these = in_files ds ∙ filter_whole names_one (types ds) no_float
@@ -221,7 +265,7 @@ module _ (ds : List (Sited Tree)) (is : length (types ds) + 12 ≡ length (types
   -- each name of a type is defined once
   pub defined_once : (q : List ℕ) → count_of q (each (λ (d : TypeDefinition). d.name) (types ds)) ≤ 1
   defined_once q =
-      let all : length (filter (is_named q) (built ++ type_definitions ds)) ≤ 1 = subst (λ xs. length (filter (is_named q) xs) ≤ 1) joined (once q (type_definitions (built_in ++ ds)) all_types) in
+      let all : length (filter (is_named q) (built ++ type_definitions ds)) ≤ 1 = subst (λ xs. length (filter (is_named q) xs) ≤ 1) joined (once q (type_definitions (built_in floats ++ ds)) all_types) in
       let parts : length (filter (is_named q) (built ++ type_definitions ds)) ≡ length (filter (is_named q) built) + length (filter (is_named q) (type_definitions ds)) =
       ap length (filter-append (is_named q) built (type_definitions ds)) ∙ length-append (filter (is_named q) built) (filter (is_named q) (type_definitions ds)) in
       let same : length (filter (is_named q) (type_definitions ds)) ≡ length (filter (is_named q) (types ds)) = ap (λ xs. length (filter (is_named q) xs)) these in
@@ -232,7 +276,7 @@ module _ (ds : List (Sited Tree)) (is : length (types ds) + 12 ≡ length (types
   -- of a name of a built-in type there is none
   none_of : (q : List ℕ) → length (filter (is_named q) built) ≡ 1 → length (filter (is_named q) (types ds)) ≡ 0
   none_of q one =
-      let all : length (filter (is_named q) (built ++ type_definitions ds)) ≤ 1 = subst (λ xs. length (filter (is_named q) xs) ≤ 1) joined (once q (type_definitions (built_in ++ ds)) all_types) in
+      let all : length (filter (is_named q) (built ++ type_definitions ds)) ≤ 1 = subst (λ xs. length (filter (is_named q) xs) ≤ 1) joined (once q (type_definitions (built_in floats ++ ds)) all_types) in
       let parts : length (filter (is_named q) (built ++ type_definitions ds)) ≡ length (filter (is_named q) built) + length (filter (is_named q) (type_definitions ds)) =
       ap length (filter-append (is_named q) built (type_definitions ds)) ∙ length-append (filter (is_named q) built) (filter (is_named q) (type_definitions ds)) in
       let same : length (filter (is_named q) (type_definitions ds)) ≡ length (filter (is_named q) (types ds)) = ap (λ xs. length (filter (is_named q) xs)) these in
@@ -240,5 +284,5 @@ module _ (ds : List (Sited Tree)) (is : length (types ds) + 12 ≡ length (types
 
   -- no type has the name of a built-in scalar, or of Float
   pub no_scalar : flat_map fault_of_type (each (λ (d : TypeDefinition). d.name) (types ds)) ≡ []
-  no_scalar = none_at_fault (types ds) (none_of (codes "Int") count_int) (none_of (codes "String") count_string)
-      (none_of (codes "Boolean") count_boolean) (none_of (codes "ID") count_id) (filter_whole names_one (types ds) no_float)
+  no_scalar = none_at_fault (types ds) placed (none_of (codes "Int") (count_int floats)) (none_of (codes "String") (count_string floats))
+      (none_of (codes "Boolean") (count_boolean floats)) (none_of (codes "ID") (count_id floats)) (filter_whole names_one (types ds) no_float)

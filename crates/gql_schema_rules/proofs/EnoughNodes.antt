@@ -11,7 +11,7 @@ use Rattle.gql_schema_rules.specs.S27ExtensionsOfUnknownTypes as s27
 use Rattle.gql_schema_rules.specs.S28ExtensionsOfAnotherKind as s28
 
 pub alone : (s : Schema) (n : AllNodes) → FindsSame s (definitions_alone n) n
-alone s n = record { joint = refl; definitions = refl; roots = refl }
+alone s n = record { joint = refl; definitions = refl; roots = λ files. refl }
 
 pub without : (s : Schema) (n : AllNodes) → AreOnce n → FindsSame s (without_types n) n
 without s n once = record {
@@ -19,5 +19,5 @@ without s n once = record {
   definitions = λ k. sym once.once k ++ (s02.faults n
       ++ ((sym once.new k ++ flat_map s04.fault_of_directive (each (λ (d : DirectiveDefinition). d.name) n.directives))
       ++ (s27.faults n s ++ s28.faults n s)));
-  roots = refl;
+  roots = λ files. refl;
 }

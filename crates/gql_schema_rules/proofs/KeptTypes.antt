@@ -174,14 +174,14 @@ module _ (names : List (List ℕ)) (old s : Schema) (keeps : KeepsOthers names o
 -- the types that are left find all faults
 pub kept_types : (names : List (List ℕ)) (old s : Schema) (c : SchemaChange) (sound keeps : Bool)
     → KeepsOthers names old s → IsChange c old s
-    → (sound ≡ true → type_faults old ≡ []) → (keeps ≡ true → sound ≡ true) → (keeps ≡ true → c.inputs ≡ [])
+    → (sound ≡ true → type_faults old ≡ []) → (keeps ≡ true → sound ≡ true) → (keeps ≡ true → c.floats ≡ false) → (keeps ≡ true → c.inputs ≡ [])
     → type_faults_on s (if sound then filter (λ (t : SchemaType). is_among names (name_of t)) s.types else s.types)
     (if keeps then filter (λ (t : SchemaType). is_among names (name_of t)) s.types else s.types)
     ≡ type_faults s
-kept_types names old s c false false others change none enough flat = refl
-kept_types names old s c false true others change none enough flat = absurd (cc (enough refl))
-kept_types names old s c true false others change none enough flat = kept_parts names old s others (none refl) s.types
-kept_types names old s c true true others change none enough flat =
+kept_types names old s c false false others change none enough floats flat = refl
+kept_types names old s c false true others change none enough floats flat = absurd (cc (enough refl))
+kept_types names old s c true false others change none enough floats flat = kept_parts names old s others (none refl) s.types
+kept_types names old s c true true others change none enough floats flat =
     kept_parts names old s others (none refl) (filter (λ (t : SchemaType). is_among names (name_of t)) s.types)
     ∙ kept_defaults names old s others (none refl) s.types
-    (λ name. change.inputs name (ap (λ inputs. is_among inputs name) (flat refl)))
+    (λ name. change.inputs (floats refl) name (ap (λ inputs. is_among inputs name) (flat refl)))

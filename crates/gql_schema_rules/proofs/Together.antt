@@ -55,9 +55,9 @@ module _ (files : Files) (s : Schema) (f : Fault) where
   of_interfaces (iface.by_s26 h) = by_s26 h
 
   of_nodes : Contains (node_faults n s) f → FaultsBy files s f
-  of_nodes h = elim (Contains-append_cases (s03.faults n) (((s16.faults n s) ++ ((s21.faults n s) ++ (s22.faults n s))) ++ (((s20.faults n s) ++ (p01.faults n)) ++ (((s29.faults n s) ++ ((s30.faults n s) ++ ((s31.faults n s) ++ ((s32.faults n s) ++ (s33.faults n s))))) ++ ((s35.faults n) ++ (s36.faults n s))))) f h) [
+  of_nodes h = elim (Contains-append_cases (s03.faults n) (((s16.faults n s) ++ ((s21.faults n s) ++ (s22.faults n s))) ++ (((s20.faults n s) ++ (p01.faults n s)) ++ (((s29.faults n s) ++ ((s30.faults n s) ++ ((s31.faults n s) ++ ((s32.faults n s) ++ (s33.faults n s))))) ++ ((s35.faults n) ++ (s36.faults n s))))) f h) [
     | inl a1 ↦ by_s03 a1
-    | inr b1 ↦ elim (Contains-append_cases ((s16.faults n s) ++ ((s21.faults n s) ++ (s22.faults n s))) (((s20.faults n s) ++ (p01.faults n)) ++ (((s29.faults n s) ++ ((s30.faults n s) ++ ((s31.faults n s) ++ ((s32.faults n s) ++ (s33.faults n s))))) ++ ((s35.faults n) ++ (s36.faults n s)))) f b1) [
+    | inr b1 ↦ elim (Contains-append_cases ((s16.faults n s) ++ ((s21.faults n s) ++ (s22.faults n s))) (((s20.faults n s) ++ (p01.faults n s)) ++ (((s29.faults n s) ++ ((s30.faults n s) ++ ((s31.faults n s) ++ ((s32.faults n s) ++ (s33.faults n s))))) ++ ((s35.faults n) ++ (s36.faults n s)))) f b1) [
       | inl a2 ↦ elim (Contains-append_cases (s16.faults n s) ((s21.faults n s) ++ (s22.faults n s)) f a2) [
         | inl a3 ↦ by_s16 a3
         | inr b3 ↦ elim (Contains-append_cases (s21.faults n s) (s22.faults n s) f b3) [
@@ -65,8 +65,8 @@ module _ (files : Files) (s : Schema) (f : Fault) where
           | inr b4 ↦ by_s22 b4
         ]
       ]
-      | inr b2 ↦ elim (Contains-append_cases ((s20.faults n s) ++ (p01.faults n)) (((s29.faults n s) ++ ((s30.faults n s) ++ ((s31.faults n s) ++ ((s32.faults n s) ++ (s33.faults n s))))) ++ ((s35.faults n) ++ (s36.faults n s))) f b2) [
-        | inl a5 ↦ elim (Contains-append_cases (s20.faults n s) (p01.faults n) f a5) [
+      | inr b2 ↦ elim (Contains-append_cases ((s20.faults n s) ++ (p01.faults n s)) (((s29.faults n s) ++ ((s30.faults n s) ++ ((s31.faults n s) ++ ((s32.faults n s) ++ (s33.faults n s))))) ++ ((s35.faults n) ++ (s36.faults n s))) f b2) [
+        | inl a5 ↦ elim (Contains-append_cases (s20.faults n s) (p01.faults n s) f a5) [
           | inl a6 ↦ by_s20 a6
           | inr b6 ↦ by_p01 b6
         ]
@@ -123,14 +123,14 @@ module _ (files : Files) (s : Schema) (f : Fault) where
     ]
   ]
 
-  of_roots : Contains (root_faults n s) f → FaultsBy files s f
-  of_roots h = elim (Contains-append_cases (s23.faults s) ((s24.faults s) ++ ((s25.faults s) ++ ((s34.faults n s) ++ (p02.faults s)))) f h) [
+  of_roots : Contains (root_faults files n s) f → FaultsBy files s f
+  of_roots h = elim (Contains-append_cases (s23.faults s) ((s24.faults s) ++ ((s25.faults s) ++ ((s34.faults n s) ++ (p02.faults files s)))) f h) [
     | inl a19 ↦ by_s23 a19
-    | inr b19 ↦ elim (Contains-append_cases (s24.faults s) ((s25.faults s) ++ ((s34.faults n s) ++ (p02.faults s))) f b19) [
+    | inr b19 ↦ elim (Contains-append_cases (s24.faults s) ((s25.faults s) ++ ((s34.faults n s) ++ (p02.faults files s))) f b19) [
       | inl a20 ↦ by_s24 a20
-      | inr b20 ↦ elim (Contains-append_cases (s25.faults s) ((s34.faults n s) ++ (p02.faults s)) f b20) [
+      | inr b20 ↦ elim (Contains-append_cases (s25.faults s) ((s34.faults n s) ++ (p02.faults files s)) f b20) [
         | inl a21 ↦ by_s25 a21
-        | inr b21 ↦ elim (Contains-append_cases (s34.faults n s) (p02.faults s) f b21) [
+        | inr b21 ↦ elim (Contains-append_cases (s34.faults n s) (p02.faults files s) f b21) [
           | inl a22 ↦ by_s34 a22
           | inr b22 ↦ by_p02 b22
         ]
@@ -140,10 +140,10 @@ module _ (files : Files) (s : Schema) (f : Fault) where
 
   -- the joined lists
   abbrev joined : List Fault → List Fault
-  joined ifaces = (((ifaces ++ node_faults n s) ++ definition_faults n s) ++ type_faults s) ++ root_faults n s
+  joined ifaces = (((ifaces ++ node_faults n s) ++ definition_faults n s) ++ type_faults s) ++ root_faults files n s
 
   found : (ifaces : List Fault) → (Contains ifaces f → iface.IsInterfaceFault s f) → Contains (joined ifaces) f → FaultsBy files s f
-  found ifaces sound h = elim (Contains-append_cases (((ifaces ++ node_faults n s) ++ definition_faults n s) ++ type_faults s) (root_faults n s) f h) [
+  found ifaces sound h = elim (Contains-append_cases (((ifaces ++ node_faults n s) ++ definition_faults n s) ++ type_faults s) (root_faults files n s) f h) [
     | inr r ↦ of_roots r
     | inl h1 ↦ elim (Contains-append_cases ((ifaces ++ node_faults n s) ++ definition_faults n s) (type_faults s) f h1) [
       | inr r ↦ of_types r
@@ -154,11 +154,11 @@ module _ (files : Files) (s : Schema) (f : Fault) where
     ]
   ]
 
-  in_roots : (ifaces : List Fault) → Contains (root_faults n s) f → Contains (joined ifaces) f
-  in_roots ifaces h = Contains-append_right (((ifaces ++ node_faults n s) ++ definition_faults n s) ++ type_faults s) (root_faults n s) f h
+  in_roots : (ifaces : List Fault) → Contains (root_faults files n s) f → Contains (joined ifaces) f
+  in_roots ifaces h = Contains-append_right (((ifaces ++ node_faults n s) ++ definition_faults n s) ++ type_faults s) (root_faults files n s) f h
 
   before_roots : (ifaces : List Fault) → Contains (((ifaces ++ node_faults n s) ++ definition_faults n s) ++ type_faults s) f → Contains (joined ifaces) f
-  before_roots ifaces h = Contains-append_left (((ifaces ++ node_faults n s) ++ definition_faults n s) ++ type_faults s) (root_faults n s) f h
+  before_roots ifaces h = Contains-append_left (((ifaces ++ node_faults n s) ++ definition_faults n s) ++ type_faults s) (root_faults files n s) f h
 
   in_types : (ifaces : List Fault) → Contains (type_faults s) f → Contains (joined ifaces) f
   in_types ifaces h = before_roots ifaces (Contains-append_right ((ifaces ++ node_faults n s) ++ definition_faults n s) (type_faults s) f h)
@@ -178,7 +178,7 @@ module _ (files : Files) (s : Schema) (f : Fault) where
   all : (ifaces : List Fault) → (iface.IsInterfaceFault s f → Contains ifaces f) → FaultsBy files s f → Contains (joined ifaces) f
   all ifaces complete (by_s01 h) = in_definitions ifaces (Contains-append_left (s01.faults n) ((s02.faults n) ++ ((s04.faults n) ++ ((s27.faults n s) ++ (s28.faults n s)))) f h)
   all ifaces complete (by_s02 h) = in_definitions ifaces (Contains-append_right (s01.faults n) ((s02.faults n) ++ ((s04.faults n) ++ ((s27.faults n s) ++ (s28.faults n s)))) f (Contains-append_left (s02.faults n) ((s04.faults n) ++ ((s27.faults n s) ++ (s28.faults n s))) f h))
-  all ifaces complete (by_s03 h) = in_nodes ifaces (Contains-append_left (s03.faults n) (((s16.faults n s) ++ ((s21.faults n s) ++ (s22.faults n s))) ++ (((s20.faults n s) ++ (p01.faults n)) ++ (((s29.faults n s) ++ ((s30.faults n s) ++ ((s31.faults n s) ++ ((s32.faults n s) ++ (s33.faults n s))))) ++ ((s35.faults n) ++ (s36.faults n s))))) f h)
+  all ifaces complete (by_s03 h) = in_nodes ifaces (Contains-append_left (s03.faults n) (((s16.faults n s) ++ ((s21.faults n s) ++ (s22.faults n s))) ++ (((s20.faults n s) ++ (p01.faults n s)) ++ (((s29.faults n s) ++ ((s30.faults n s) ++ ((s31.faults n s) ++ ((s32.faults n s) ++ (s33.faults n s))))) ++ ((s35.faults n) ++ (s36.faults n s))))) f h)
   all ifaces complete (by_s04 h) = in_definitions ifaces (Contains-append_right (s01.faults n) ((s02.faults n) ++ ((s04.faults n) ++ ((s27.faults n s) ++ (s28.faults n s)))) f (Contains-append_right (s02.faults n) ((s04.faults n) ++ ((s27.faults n s) ++ (s28.faults n s))) f (Contains-append_left (s04.faults n) ((s27.faults n s) ++ (s28.faults n s)) f h)))
   all ifaces complete (by_s05 h) = in_types ifaces (Contains-append_left (s05.faults s) ((s06.faults s) ++ ((s07.faults s) ++ ((s08.faults s) ++ (s18.faults s)))) f h)
   all ifaces complete (by_s06 h) = in_types ifaces (Contains-append_right (s05.faults s) ((s06.faults s) ++ ((s07.faults s) ++ ((s08.faults s) ++ (s18.faults s)))) f (Contains-append_left (s06.faults s) ((s07.faults s) ++ ((s08.faults s) ++ (s18.faults s))) f h))
@@ -191,33 +191,33 @@ module _ (files : Files) (s : Schema) (f : Fault) where
   all ifaces complete (by_s13 h) = in_interfaces ifaces (complete (iface.by_s13 h))
   all ifaces complete (by_s14 h) = in_interfaces ifaces (complete (iface.by_s14 h))
   all ifaces complete (by_s15 h) = in_interfaces ifaces (complete (iface.by_s15 h))
-  all ifaces complete (by_s16 h) = in_nodes ifaces (Contains-append_right (s03.faults n) (((s16.faults n s) ++ ((s21.faults n s) ++ (s22.faults n s))) ++ (((s20.faults n s) ++ (p01.faults n)) ++ (((s29.faults n s) ++ ((s30.faults n s) ++ ((s31.faults n s) ++ ((s32.faults n s) ++ (s33.faults n s))))) ++ ((s35.faults n) ++ (s36.faults n s))))) f (Contains-append_left ((s16.faults n s) ++ ((s21.faults n s) ++ (s22.faults n s))) (((s20.faults n s) ++ (p01.faults n)) ++ (((s29.faults n s) ++ ((s30.faults n s) ++ ((s31.faults n s) ++ ((s32.faults n s) ++ (s33.faults n s))))) ++ ((s35.faults n) ++ (s36.faults n s)))) f (Contains-append_left (s16.faults n s) ((s21.faults n s) ++ (s22.faults n s)) f h)))
+  all ifaces complete (by_s16 h) = in_nodes ifaces (Contains-append_right (s03.faults n) (((s16.faults n s) ++ ((s21.faults n s) ++ (s22.faults n s))) ++ (((s20.faults n s) ++ (p01.faults n s)) ++ (((s29.faults n s) ++ ((s30.faults n s) ++ ((s31.faults n s) ++ ((s32.faults n s) ++ (s33.faults n s))))) ++ ((s35.faults n) ++ (s36.faults n s))))) f (Contains-append_left ((s16.faults n s) ++ ((s21.faults n s) ++ (s22.faults n s))) (((s20.faults n s) ++ (p01.faults n s)) ++ (((s29.faults n s) ++ ((s30.faults n s) ++ ((s31.faults n s) ++ ((s32.faults n s) ++ (s33.faults n s))))) ++ ((s35.faults n) ++ (s36.faults n s)))) f (Contains-append_left (s16.faults n s) ((s21.faults n s) ++ (s22.faults n s)) f h)))
   all ifaces complete (by_s17 h) = in_interfaces ifaces (complete (iface.by_s17 h))
   all ifaces complete (by_s18 h) = in_types ifaces (Contains-append_right (s05.faults s) ((s06.faults s) ++ ((s07.faults s) ++ ((s08.faults s) ++ (s18.faults s)))) f (Contains-append_right (s06.faults s) ((s07.faults s) ++ ((s08.faults s) ++ (s18.faults s))) f (Contains-append_right (s07.faults s) ((s08.faults s) ++ (s18.faults s)) f (Contains-append_right (s08.faults s) (s18.faults s) f h))))
   all ifaces complete (by_s19 h) = in_interfaces ifaces (complete (iface.by_s19 h))
-  all ifaces complete (by_s20 h) = in_nodes ifaces (Contains-append_right (s03.faults n) (((s16.faults n s) ++ ((s21.faults n s) ++ (s22.faults n s))) ++ (((s20.faults n s) ++ (p01.faults n)) ++ (((s29.faults n s) ++ ((s30.faults n s) ++ ((s31.faults n s) ++ ((s32.faults n s) ++ (s33.faults n s))))) ++ ((s35.faults n) ++ (s36.faults n s))))) f (Contains-append_right ((s16.faults n s) ++ ((s21.faults n s) ++ (s22.faults n s))) (((s20.faults n s) ++ (p01.faults n)) ++ (((s29.faults n s) ++ ((s30.faults n s) ++ ((s31.faults n s) ++ ((s32.faults n s) ++ (s33.faults n s))))) ++ ((s35.faults n) ++ (s36.faults n s)))) f (Contains-append_left ((s20.faults n s) ++ (p01.faults n)) (((s29.faults n s) ++ ((s30.faults n s) ++ ((s31.faults n s) ++ ((s32.faults n s) ++ (s33.faults n s))))) ++ ((s35.faults n) ++ (s36.faults n s))) f (Contains-append_left (s20.faults n s) (p01.faults n) f h))))
-  all ifaces complete (by_s21 h) = in_nodes ifaces (Contains-append_right (s03.faults n) (((s16.faults n s) ++ ((s21.faults n s) ++ (s22.faults n s))) ++ (((s20.faults n s) ++ (p01.faults n)) ++ (((s29.faults n s) ++ ((s30.faults n s) ++ ((s31.faults n s) ++ ((s32.faults n s) ++ (s33.faults n s))))) ++ ((s35.faults n) ++ (s36.faults n s))))) f (Contains-append_left ((s16.faults n s) ++ ((s21.faults n s) ++ (s22.faults n s))) (((s20.faults n s) ++ (p01.faults n)) ++ (((s29.faults n s) ++ ((s30.faults n s) ++ ((s31.faults n s) ++ ((s32.faults n s) ++ (s33.faults n s))))) ++ ((s35.faults n) ++ (s36.faults n s)))) f (Contains-append_right (s16.faults n s) ((s21.faults n s) ++ (s22.faults n s)) f (Contains-append_left (s21.faults n s) (s22.faults n s) f h))))
-  all ifaces complete (by_s22 h) = in_nodes ifaces (Contains-append_right (s03.faults n) (((s16.faults n s) ++ ((s21.faults n s) ++ (s22.faults n s))) ++ (((s20.faults n s) ++ (p01.faults n)) ++ (((s29.faults n s) ++ ((s30.faults n s) ++ ((s31.faults n s) ++ ((s32.faults n s) ++ (s33.faults n s))))) ++ ((s35.faults n) ++ (s36.faults n s))))) f (Contains-append_left ((s16.faults n s) ++ ((s21.faults n s) ++ (s22.faults n s))) (((s20.faults n s) ++ (p01.faults n)) ++ (((s29.faults n s) ++ ((s30.faults n s) ++ ((s31.faults n s) ++ ((s32.faults n s) ++ (s33.faults n s))))) ++ ((s35.faults n) ++ (s36.faults n s)))) f (Contains-append_right (s16.faults n s) ((s21.faults n s) ++ (s22.faults n s)) f (Contains-append_right (s21.faults n s) (s22.faults n s) f h))))
-  all ifaces complete (by_s23 h) = in_roots ifaces (Contains-append_left (s23.faults s) ((s24.faults s) ++ ((s25.faults s) ++ ((s34.faults n s) ++ (p02.faults s)))) f h)
-  all ifaces complete (by_s24 h) = in_roots ifaces (Contains-append_right (s23.faults s) ((s24.faults s) ++ ((s25.faults s) ++ ((s34.faults n s) ++ (p02.faults s)))) f (Contains-append_left (s24.faults s) ((s25.faults s) ++ ((s34.faults n s) ++ (p02.faults s))) f h))
-  all ifaces complete (by_s25 h) = in_roots ifaces (Contains-append_right (s23.faults s) ((s24.faults s) ++ ((s25.faults s) ++ ((s34.faults n s) ++ (p02.faults s)))) f (Contains-append_right (s24.faults s) ((s25.faults s) ++ ((s34.faults n s) ++ (p02.faults s))) f (Contains-append_left (s25.faults s) ((s34.faults n s) ++ (p02.faults s)) f h)))
+  all ifaces complete (by_s20 h) = in_nodes ifaces (Contains-append_right (s03.faults n) (((s16.faults n s) ++ ((s21.faults n s) ++ (s22.faults n s))) ++ (((s20.faults n s) ++ (p01.faults n s)) ++ (((s29.faults n s) ++ ((s30.faults n s) ++ ((s31.faults n s) ++ ((s32.faults n s) ++ (s33.faults n s))))) ++ ((s35.faults n) ++ (s36.faults n s))))) f (Contains-append_right ((s16.faults n s) ++ ((s21.faults n s) ++ (s22.faults n s))) (((s20.faults n s) ++ (p01.faults n s)) ++ (((s29.faults n s) ++ ((s30.faults n s) ++ ((s31.faults n s) ++ ((s32.faults n s) ++ (s33.faults n s))))) ++ ((s35.faults n) ++ (s36.faults n s)))) f (Contains-append_left ((s20.faults n s) ++ (p01.faults n s)) (((s29.faults n s) ++ ((s30.faults n s) ++ ((s31.faults n s) ++ ((s32.faults n s) ++ (s33.faults n s))))) ++ ((s35.faults n) ++ (s36.faults n s))) f (Contains-append_left (s20.faults n s) (p01.faults n s) f h))))
+  all ifaces complete (by_s21 h) = in_nodes ifaces (Contains-append_right (s03.faults n) (((s16.faults n s) ++ ((s21.faults n s) ++ (s22.faults n s))) ++ (((s20.faults n s) ++ (p01.faults n s)) ++ (((s29.faults n s) ++ ((s30.faults n s) ++ ((s31.faults n s) ++ ((s32.faults n s) ++ (s33.faults n s))))) ++ ((s35.faults n) ++ (s36.faults n s))))) f (Contains-append_left ((s16.faults n s) ++ ((s21.faults n s) ++ (s22.faults n s))) (((s20.faults n s) ++ (p01.faults n s)) ++ (((s29.faults n s) ++ ((s30.faults n s) ++ ((s31.faults n s) ++ ((s32.faults n s) ++ (s33.faults n s))))) ++ ((s35.faults n) ++ (s36.faults n s)))) f (Contains-append_right (s16.faults n s) ((s21.faults n s) ++ (s22.faults n s)) f (Contains-append_left (s21.faults n s) (s22.faults n s) f h))))
+  all ifaces complete (by_s22 h) = in_nodes ifaces (Contains-append_right (s03.faults n) (((s16.faults n s) ++ ((s21.faults n s) ++ (s22.faults n s))) ++ (((s20.faults n s) ++ (p01.faults n s)) ++ (((s29.faults n s) ++ ((s30.faults n s) ++ ((s31.faults n s) ++ ((s32.faults n s) ++ (s33.faults n s))))) ++ ((s35.faults n) ++ (s36.faults n s))))) f (Contains-append_left ((s16.faults n s) ++ ((s21.faults n s) ++ (s22.faults n s))) (((s20.faults n s) ++ (p01.faults n s)) ++ (((s29.faults n s) ++ ((s30.faults n s) ++ ((s31.faults n s) ++ ((s32.faults n s) ++ (s33.faults n s))))) ++ ((s35.faults n) ++ (s36.faults n s)))) f (Contains-append_right (s16.faults n s) ((s21.faults n s) ++ (s22.faults n s)) f (Contains-append_right (s21.faults n s) (s22.faults n s) f h))))
+  all ifaces complete (by_s23 h) = in_roots ifaces (Contains-append_left (s23.faults s) ((s24.faults s) ++ ((s25.faults s) ++ ((s34.faults n s) ++ (p02.faults files s)))) f h)
+  all ifaces complete (by_s24 h) = in_roots ifaces (Contains-append_right (s23.faults s) ((s24.faults s) ++ ((s25.faults s) ++ ((s34.faults n s) ++ (p02.faults files s)))) f (Contains-append_left (s24.faults s) ((s25.faults s) ++ ((s34.faults n s) ++ (p02.faults files s))) f h))
+  all ifaces complete (by_s25 h) = in_roots ifaces (Contains-append_right (s23.faults s) ((s24.faults s) ++ ((s25.faults s) ++ ((s34.faults n s) ++ (p02.faults files s)))) f (Contains-append_right (s24.faults s) ((s25.faults s) ++ ((s34.faults n s) ++ (p02.faults files s))) f (Contains-append_left (s25.faults s) ((s34.faults n s) ++ (p02.faults files s)) f h)))
   all ifaces complete (by_s26 h) = in_interfaces ifaces (complete (iface.by_s26 h))
   all ifaces complete (by_s27 h) = in_definitions ifaces (Contains-append_right (s01.faults n) ((s02.faults n) ++ ((s04.faults n) ++ ((s27.faults n s) ++ (s28.faults n s)))) f (Contains-append_right (s02.faults n) ((s04.faults n) ++ ((s27.faults n s) ++ (s28.faults n s))) f (Contains-append_right (s04.faults n) ((s27.faults n s) ++ (s28.faults n s)) f (Contains-append_left (s27.faults n s) (s28.faults n s) f h))))
   all ifaces complete (by_s28 h) = in_definitions ifaces (Contains-append_right (s01.faults n) ((s02.faults n) ++ ((s04.faults n) ++ ((s27.faults n s) ++ (s28.faults n s)))) f (Contains-append_right (s02.faults n) ((s04.faults n) ++ ((s27.faults n s) ++ (s28.faults n s))) f (Contains-append_right (s04.faults n) ((s27.faults n s) ++ (s28.faults n s)) f (Contains-append_right (s27.faults n s) (s28.faults n s) f h))))
-  all ifaces complete (by_s29 h) = in_nodes ifaces (Contains-append_right (s03.faults n) (((s16.faults n s) ++ ((s21.faults n s) ++ (s22.faults n s))) ++ (((s20.faults n s) ++ (p01.faults n)) ++ (((s29.faults n s) ++ ((s30.faults n s) ++ ((s31.faults n s) ++ ((s32.faults n s) ++ (s33.faults n s))))) ++ ((s35.faults n) ++ (s36.faults n s))))) f (Contains-append_right ((s16.faults n s) ++ ((s21.faults n s) ++ (s22.faults n s))) (((s20.faults n s) ++ (p01.faults n)) ++ (((s29.faults n s) ++ ((s30.faults n s) ++ ((s31.faults n s) ++ ((s32.faults n s) ++ (s33.faults n s))))) ++ ((s35.faults n) ++ (s36.faults n s)))) f (Contains-append_right ((s20.faults n s) ++ (p01.faults n)) (((s29.faults n s) ++ ((s30.faults n s) ++ ((s31.faults n s) ++ ((s32.faults n s) ++ (s33.faults n s))))) ++ ((s35.faults n) ++ (s36.faults n s))) f (Contains-append_left ((s29.faults n s) ++ ((s30.faults n s) ++ ((s31.faults n s) ++ ((s32.faults n s) ++ (s33.faults n s))))) ((s35.faults n) ++ (s36.faults n s)) f (Contains-append_left (s29.faults n s) ((s30.faults n s) ++ ((s31.faults n s) ++ ((s32.faults n s) ++ (s33.faults n s)))) f h)))))
-  all ifaces complete (by_s30 h) = in_nodes ifaces (Contains-append_right (s03.faults n) (((s16.faults n s) ++ ((s21.faults n s) ++ (s22.faults n s))) ++ (((s20.faults n s) ++ (p01.faults n)) ++ (((s29.faults n s) ++ ((s30.faults n s) ++ ((s31.faults n s) ++ ((s32.faults n s) ++ (s33.faults n s))))) ++ ((s35.faults n) ++ (s36.faults n s))))) f (Contains-append_right ((s16.faults n s) ++ ((s21.faults n s) ++ (s22.faults n s))) (((s20.faults n s) ++ (p01.faults n)) ++ (((s29.faults n s) ++ ((s30.faults n s) ++ ((s31.faults n s) ++ ((s32.faults n s) ++ (s33.faults n s))))) ++ ((s35.faults n) ++ (s36.faults n s)))) f (Contains-append_right ((s20.faults n s) ++ (p01.faults n)) (((s29.faults n s) ++ ((s30.faults n s) ++ ((s31.faults n s) ++ ((s32.faults n s) ++ (s33.faults n s))))) ++ ((s35.faults n) ++ (s36.faults n s))) f (Contains-append_left ((s29.faults n s) ++ ((s30.faults n s) ++ ((s31.faults n s) ++ ((s32.faults n s) ++ (s33.faults n s))))) ((s35.faults n) ++ (s36.faults n s)) f (Contains-append_right (s29.faults n s) ((s30.faults n s) ++ ((s31.faults n s) ++ ((s32.faults n s) ++ (s33.faults n s)))) f (Contains-append_left (s30.faults n s) ((s31.faults n s) ++ ((s32.faults n s) ++ (s33.faults n s))) f h))))))
-  all ifaces complete (by_s31 h) = in_nodes ifaces (Contains-append_right (s03.faults n) (((s16.faults n s) ++ ((s21.faults n s) ++ (s22.faults n s))) ++ (((s20.faults n s) ++ (p01.faults n)) ++ (((s29.faults n s) ++ ((s30.faults n s) ++ ((s31.faults n s) ++ ((s32.faults n s) ++ (s33.faults n s))))) ++ ((s35.faults n) ++ (s36.faults n s))))) f (Contains-append_right ((s16.faults n s) ++ ((s21.faults n s) ++ (s22.faults n s))) (((s20.faults n s) ++ (p01.faults n)) ++ (((s29.faults n s) ++ ((s30.faults n s) ++ ((s31.faults n s) ++ ((s32.faults n s) ++ (s33.faults n s))))) ++ ((s35.faults n) ++ (s36.faults n s)))) f (Contains-append_right ((s20.faults n s) ++ (p01.faults n)) (((s29.faults n s) ++ ((s30.faults n s) ++ ((s31.faults n s) ++ ((s32.faults n s) ++ (s33.faults n s))))) ++ ((s35.faults n) ++ (s36.faults n s))) f (Contains-append_left ((s29.faults n s) ++ ((s30.faults n s) ++ ((s31.faults n s) ++ ((s32.faults n s) ++ (s33.faults n s))))) ((s35.faults n) ++ (s36.faults n s)) f (Contains-append_right (s29.faults n s) ((s30.faults n s) ++ ((s31.faults n s) ++ ((s32.faults n s) ++ (s33.faults n s)))) f (Contains-append_right (s30.faults n s) ((s31.faults n s) ++ ((s32.faults n s) ++ (s33.faults n s))) f (Contains-append_left (s31.faults n s) ((s32.faults n s) ++ (s33.faults n s)) f h)))))))
-  all ifaces complete (by_s32 h) = in_nodes ifaces (Contains-append_right (s03.faults n) (((s16.faults n s) ++ ((s21.faults n s) ++ (s22.faults n s))) ++ (((s20.faults n s) ++ (p01.faults n)) ++ (((s29.faults n s) ++ ((s30.faults n s) ++ ((s31.faults n s) ++ ((s32.faults n s) ++ (s33.faults n s))))) ++ ((s35.faults n) ++ (s36.faults n s))))) f (Contains-append_right ((s16.faults n s) ++ ((s21.faults n s) ++ (s22.faults n s))) (((s20.faults n s) ++ (p01.faults n)) ++ (((s29.faults n s) ++ ((s30.faults n s) ++ ((s31.faults n s) ++ ((s32.faults n s) ++ (s33.faults n s))))) ++ ((s35.faults n) ++ (s36.faults n s)))) f (Contains-append_right ((s20.faults n s) ++ (p01.faults n)) (((s29.faults n s) ++ ((s30.faults n s) ++ ((s31.faults n s) ++ ((s32.faults n s) ++ (s33.faults n s))))) ++ ((s35.faults n) ++ (s36.faults n s))) f (Contains-append_left ((s29.faults n s) ++ ((s30.faults n s) ++ ((s31.faults n s) ++ ((s32.faults n s) ++ (s33.faults n s))))) ((s35.faults n) ++ (s36.faults n s)) f (Contains-append_right (s29.faults n s) ((s30.faults n s) ++ ((s31.faults n s) ++ ((s32.faults n s) ++ (s33.faults n s)))) f (Contains-append_right (s30.faults n s) ((s31.faults n s) ++ ((s32.faults n s) ++ (s33.faults n s))) f (Contains-append_right (s31.faults n s) ((s32.faults n s) ++ (s33.faults n s)) f (Contains-append_left (s32.faults n s) (s33.faults n s) f h))))))))
-  all ifaces complete (by_s33 h) = in_nodes ifaces (Contains-append_right (s03.faults n) (((s16.faults n s) ++ ((s21.faults n s) ++ (s22.faults n s))) ++ (((s20.faults n s) ++ (p01.faults n)) ++ (((s29.faults n s) ++ ((s30.faults n s) ++ ((s31.faults n s) ++ ((s32.faults n s) ++ (s33.faults n s))))) ++ ((s35.faults n) ++ (s36.faults n s))))) f (Contains-append_right ((s16.faults n s) ++ ((s21.faults n s) ++ (s22.faults n s))) (((s20.faults n s) ++ (p01.faults n)) ++ (((s29.faults n s) ++ ((s30.faults n s) ++ ((s31.faults n s) ++ ((s32.faults n s) ++ (s33.faults n s))))) ++ ((s35.faults n) ++ (s36.faults n s)))) f (Contains-append_right ((s20.faults n s) ++ (p01.faults n)) (((s29.faults n s) ++ ((s30.faults n s) ++ ((s31.faults n s) ++ ((s32.faults n s) ++ (s33.faults n s))))) ++ ((s35.faults n) ++ (s36.faults n s))) f (Contains-append_left ((s29.faults n s) ++ ((s30.faults n s) ++ ((s31.faults n s) ++ ((s32.faults n s) ++ (s33.faults n s))))) ((s35.faults n) ++ (s36.faults n s)) f (Contains-append_right (s29.faults n s) ((s30.faults n s) ++ ((s31.faults n s) ++ ((s32.faults n s) ++ (s33.faults n s)))) f (Contains-append_right (s30.faults n s) ((s31.faults n s) ++ ((s32.faults n s) ++ (s33.faults n s))) f (Contains-append_right (s31.faults n s) ((s32.faults n s) ++ (s33.faults n s)) f (Contains-append_right (s32.faults n s) (s33.faults n s) f h))))))))
-  all ifaces complete (by_s34 h) = in_roots ifaces (Contains-append_right (s23.faults s) ((s24.faults s) ++ ((s25.faults s) ++ ((s34.faults n s) ++ (p02.faults s)))) f (Contains-append_right (s24.faults s) ((s25.faults s) ++ ((s34.faults n s) ++ (p02.faults s))) f (Contains-append_right (s25.faults s) ((s34.faults n s) ++ (p02.faults s)) f (Contains-append_left (s34.faults n s) (p02.faults s) f h))))
-  all ifaces complete (by_s35 h) = in_nodes ifaces (Contains-append_right (s03.faults n) (((s16.faults n s) ++ ((s21.faults n s) ++ (s22.faults n s))) ++ (((s20.faults n s) ++ (p01.faults n)) ++ (((s29.faults n s) ++ ((s30.faults n s) ++ ((s31.faults n s) ++ ((s32.faults n s) ++ (s33.faults n s))))) ++ ((s35.faults n) ++ (s36.faults n s))))) f (Contains-append_right ((s16.faults n s) ++ ((s21.faults n s) ++ (s22.faults n s))) (((s20.faults n s) ++ (p01.faults n)) ++ (((s29.faults n s) ++ ((s30.faults n s) ++ ((s31.faults n s) ++ ((s32.faults n s) ++ (s33.faults n s))))) ++ ((s35.faults n) ++ (s36.faults n s)))) f (Contains-append_right ((s20.faults n s) ++ (p01.faults n)) (((s29.faults n s) ++ ((s30.faults n s) ++ ((s31.faults n s) ++ ((s32.faults n s) ++ (s33.faults n s))))) ++ ((s35.faults n) ++ (s36.faults n s))) f (Contains-append_right ((s29.faults n s) ++ ((s30.faults n s) ++ ((s31.faults n s) ++ ((s32.faults n s) ++ (s33.faults n s))))) ((s35.faults n) ++ (s36.faults n s)) f (Contains-append_left (s35.faults n) (s36.faults n s) f h)))))
-  all ifaces complete (by_s36 h) = in_nodes ifaces (Contains-append_right (s03.faults n) (((s16.faults n s) ++ ((s21.faults n s) ++ (s22.faults n s))) ++ (((s20.faults n s) ++ (p01.faults n)) ++ (((s29.faults n s) ++ ((s30.faults n s) ++ ((s31.faults n s) ++ ((s32.faults n s) ++ (s33.faults n s))))) ++ ((s35.faults n) ++ (s36.faults n s))))) f (Contains-append_right ((s16.faults n s) ++ ((s21.faults n s) ++ (s22.faults n s))) (((s20.faults n s) ++ (p01.faults n)) ++ (((s29.faults n s) ++ ((s30.faults n s) ++ ((s31.faults n s) ++ ((s32.faults n s) ++ (s33.faults n s))))) ++ ((s35.faults n) ++ (s36.faults n s)))) f (Contains-append_right ((s20.faults n s) ++ (p01.faults n)) (((s29.faults n s) ++ ((s30.faults n s) ++ ((s31.faults n s) ++ ((s32.faults n s) ++ (s33.faults n s))))) ++ ((s35.faults n) ++ (s36.faults n s))) f (Contains-append_right ((s29.faults n s) ++ ((s30.faults n s) ++ ((s31.faults n s) ++ ((s32.faults n s) ++ (s33.faults n s))))) ((s35.faults n) ++ (s36.faults n s)) f (Contains-append_right (s35.faults n) (s36.faults n s) f h)))))
-  all ifaces complete (by_p01 h) = in_nodes ifaces (Contains-append_right (s03.faults n) (((s16.faults n s) ++ ((s21.faults n s) ++ (s22.faults n s))) ++ (((s20.faults n s) ++ (p01.faults n)) ++ (((s29.faults n s) ++ ((s30.faults n s) ++ ((s31.faults n s) ++ ((s32.faults n s) ++ (s33.faults n s))))) ++ ((s35.faults n) ++ (s36.faults n s))))) f (Contains-append_right ((s16.faults n s) ++ ((s21.faults n s) ++ (s22.faults n s))) (((s20.faults n s) ++ (p01.faults n)) ++ (((s29.faults n s) ++ ((s30.faults n s) ++ ((s31.faults n s) ++ ((s32.faults n s) ++ (s33.faults n s))))) ++ ((s35.faults n) ++ (s36.faults n s)))) f (Contains-append_left ((s20.faults n s) ++ (p01.faults n)) (((s29.faults n s) ++ ((s30.faults n s) ++ ((s31.faults n s) ++ ((s32.faults n s) ++ (s33.faults n s))))) ++ ((s35.faults n) ++ (s36.faults n s))) f (Contains-append_right (s20.faults n s) (p01.faults n) f h))))
-  all ifaces complete (by_p02 h) = in_roots ifaces (Contains-append_right (s23.faults s) ((s24.faults s) ++ ((s25.faults s) ++ ((s34.faults n s) ++ (p02.faults s)))) f (Contains-append_right (s24.faults s) ((s25.faults s) ++ ((s34.faults n s) ++ (p02.faults s))) f (Contains-append_right (s25.faults s) ((s34.faults n s) ++ (p02.faults s)) f (Contains-append_right (s34.faults n s) (p02.faults s) f h))))
+  all ifaces complete (by_s29 h) = in_nodes ifaces (Contains-append_right (s03.faults n) (((s16.faults n s) ++ ((s21.faults n s) ++ (s22.faults n s))) ++ (((s20.faults n s) ++ (p01.faults n s)) ++ (((s29.faults n s) ++ ((s30.faults n s) ++ ((s31.faults n s) ++ ((s32.faults n s) ++ (s33.faults n s))))) ++ ((s35.faults n) ++ (s36.faults n s))))) f (Contains-append_right ((s16.faults n s) ++ ((s21.faults n s) ++ (s22.faults n s))) (((s20.faults n s) ++ (p01.faults n s)) ++ (((s29.faults n s) ++ ((s30.faults n s) ++ ((s31.faults n s) ++ ((s32.faults n s) ++ (s33.faults n s))))) ++ ((s35.faults n) ++ (s36.faults n s)))) f (Contains-append_right ((s20.faults n s) ++ (p01.faults n s)) (((s29.faults n s) ++ ((s30.faults n s) ++ ((s31.faults n s) ++ ((s32.faults n s) ++ (s33.faults n s))))) ++ ((s35.faults n) ++ (s36.faults n s))) f (Contains-append_left ((s29.faults n s) ++ ((s30.faults n s) ++ ((s31.faults n s) ++ ((s32.faults n s) ++ (s33.faults n s))))) ((s35.faults n) ++ (s36.faults n s)) f (Contains-append_left (s29.faults n s) ((s30.faults n s) ++ ((s31.faults n s) ++ ((s32.faults n s) ++ (s33.faults n s)))) f h)))))
+  all ifaces complete (by_s30 h) = in_nodes ifaces (Contains-append_right (s03.faults n) (((s16.faults n s) ++ ((s21.faults n s) ++ (s22.faults n s))) ++ (((s20.faults n s) ++ (p01.faults n s)) ++ (((s29.faults n s) ++ ((s30.faults n s) ++ ((s31.faults n s) ++ ((s32.faults n s) ++ (s33.faults n s))))) ++ ((s35.faults n) ++ (s36.faults n s))))) f (Contains-append_right ((s16.faults n s) ++ ((s21.faults n s) ++ (s22.faults n s))) (((s20.faults n s) ++ (p01.faults n s)) ++ (((s29.faults n s) ++ ((s30.faults n s) ++ ((s31.faults n s) ++ ((s32.faults n s) ++ (s33.faults n s))))) ++ ((s35.faults n) ++ (s36.faults n s)))) f (Contains-append_right ((s20.faults n s) ++ (p01.faults n s)) (((s29.faults n s) ++ ((s30.faults n s) ++ ((s31.faults n s) ++ ((s32.faults n s) ++ (s33.faults n s))))) ++ ((s35.faults n) ++ (s36.faults n s))) f (Contains-append_left ((s29.faults n s) ++ ((s30.faults n s) ++ ((s31.faults n s) ++ ((s32.faults n s) ++ (s33.faults n s))))) ((s35.faults n) ++ (s36.faults n s)) f (Contains-append_right (s29.faults n s) ((s30.faults n s) ++ ((s31.faults n s) ++ ((s32.faults n s) ++ (s33.faults n s)))) f (Contains-append_left (s30.faults n s) ((s31.faults n s) ++ ((s32.faults n s) ++ (s33.faults n s))) f h))))))
+  all ifaces complete (by_s31 h) = in_nodes ifaces (Contains-append_right (s03.faults n) (((s16.faults n s) ++ ((s21.faults n s) ++ (s22.faults n s))) ++ (((s20.faults n s) ++ (p01.faults n s)) ++ (((s29.faults n s) ++ ((s30.faults n s) ++ ((s31.faults n s) ++ ((s32.faults n s) ++ (s33.faults n s))))) ++ ((s35.faults n) ++ (s36.faults n s))))) f (Contains-append_right ((s16.faults n s) ++ ((s21.faults n s) ++ (s22.faults n s))) (((s20.faults n s) ++ (p01.faults n s)) ++ (((s29.faults n s) ++ ((s30.faults n s) ++ ((s31.faults n s) ++ ((s32.faults n s) ++ (s33.faults n s))))) ++ ((s35.faults n) ++ (s36.faults n s)))) f (Contains-append_right ((s20.faults n s) ++ (p01.faults n s)) (((s29.faults n s) ++ ((s30.faults n s) ++ ((s31.faults n s) ++ ((s32.faults n s) ++ (s33.faults n s))))) ++ ((s35.faults n) ++ (s36.faults n s))) f (Contains-append_left ((s29.faults n s) ++ ((s30.faults n s) ++ ((s31.faults n s) ++ ((s32.faults n s) ++ (s33.faults n s))))) ((s35.faults n) ++ (s36.faults n s)) f (Contains-append_right (s29.faults n s) ((s30.faults n s) ++ ((s31.faults n s) ++ ((s32.faults n s) ++ (s33.faults n s)))) f (Contains-append_right (s30.faults n s) ((s31.faults n s) ++ ((s32.faults n s) ++ (s33.faults n s))) f (Contains-append_left (s31.faults n s) ((s32.faults n s) ++ (s33.faults n s)) f h)))))))
+  all ifaces complete (by_s32 h) = in_nodes ifaces (Contains-append_right (s03.faults n) (((s16.faults n s) ++ ((s21.faults n s) ++ (s22.faults n s))) ++ (((s20.faults n s) ++ (p01.faults n s)) ++ (((s29.faults n s) ++ ((s30.faults n s) ++ ((s31.faults n s) ++ ((s32.faults n s) ++ (s33.faults n s))))) ++ ((s35.faults n) ++ (s36.faults n s))))) f (Contains-append_right ((s16.faults n s) ++ ((s21.faults n s) ++ (s22.faults n s))) (((s20.faults n s) ++ (p01.faults n s)) ++ (((s29.faults n s) ++ ((s30.faults n s) ++ ((s31.faults n s) ++ ((s32.faults n s) ++ (s33.faults n s))))) ++ ((s35.faults n) ++ (s36.faults n s)))) f (Contains-append_right ((s20.faults n s) ++ (p01.faults n s)) (((s29.faults n s) ++ ((s30.faults n s) ++ ((s31.faults n s) ++ ((s32.faults n s) ++ (s33.faults n s))))) ++ ((s35.faults n) ++ (s36.faults n s))) f (Contains-append_left ((s29.faults n s) ++ ((s30.faults n s) ++ ((s31.faults n s) ++ ((s32.faults n s) ++ (s33.faults n s))))) ((s35.faults n) ++ (s36.faults n s)) f (Contains-append_right (s29.faults n s) ((s30.faults n s) ++ ((s31.faults n s) ++ ((s32.faults n s) ++ (s33.faults n s)))) f (Contains-append_right (s30.faults n s) ((s31.faults n s) ++ ((s32.faults n s) ++ (s33.faults n s))) f (Contains-append_right (s31.faults n s) ((s32.faults n s) ++ (s33.faults n s)) f (Contains-append_left (s32.faults n s) (s33.faults n s) f h))))))))
+  all ifaces complete (by_s33 h) = in_nodes ifaces (Contains-append_right (s03.faults n) (((s16.faults n s) ++ ((s21.faults n s) ++ (s22.faults n s))) ++ (((s20.faults n s) ++ (p01.faults n s)) ++ (((s29.faults n s) ++ ((s30.faults n s) ++ ((s31.faults n s) ++ ((s32.faults n s) ++ (s33.faults n s))))) ++ ((s35.faults n) ++ (s36.faults n s))))) f (Contains-append_right ((s16.faults n s) ++ ((s21.faults n s) ++ (s22.faults n s))) (((s20.faults n s) ++ (p01.faults n s)) ++ (((s29.faults n s) ++ ((s30.faults n s) ++ ((s31.faults n s) ++ ((s32.faults n s) ++ (s33.faults n s))))) ++ ((s35.faults n) ++ (s36.faults n s)))) f (Contains-append_right ((s20.faults n s) ++ (p01.faults n s)) (((s29.faults n s) ++ ((s30.faults n s) ++ ((s31.faults n s) ++ ((s32.faults n s) ++ (s33.faults n s))))) ++ ((s35.faults n) ++ (s36.faults n s))) f (Contains-append_left ((s29.faults n s) ++ ((s30.faults n s) ++ ((s31.faults n s) ++ ((s32.faults n s) ++ (s33.faults n s))))) ((s35.faults n) ++ (s36.faults n s)) f (Contains-append_right (s29.faults n s) ((s30.faults n s) ++ ((s31.faults n s) ++ ((s32.faults n s) ++ (s33.faults n s)))) f (Contains-append_right (s30.faults n s) ((s31.faults n s) ++ ((s32.faults n s) ++ (s33.faults n s))) f (Contains-append_right (s31.faults n s) ((s32.faults n s) ++ (s33.faults n s)) f (Contains-append_right (s32.faults n s) (s33.faults n s) f h))))))))
+  all ifaces complete (by_s34 h) = in_roots ifaces (Contains-append_right (s23.faults s) ((s24.faults s) ++ ((s25.faults s) ++ ((s34.faults n s) ++ (p02.faults files s)))) f (Contains-append_right (s24.faults s) ((s25.faults s) ++ ((s34.faults n s) ++ (p02.faults files s))) f (Contains-append_right (s25.faults s) ((s34.faults n s) ++ (p02.faults files s)) f (Contains-append_left (s34.faults n s) (p02.faults files s) f h))))
+  all ifaces complete (by_s35 h) = in_nodes ifaces (Contains-append_right (s03.faults n) (((s16.faults n s) ++ ((s21.faults n s) ++ (s22.faults n s))) ++ (((s20.faults n s) ++ (p01.faults n s)) ++ (((s29.faults n s) ++ ((s30.faults n s) ++ ((s31.faults n s) ++ ((s32.faults n s) ++ (s33.faults n s))))) ++ ((s35.faults n) ++ (s36.faults n s))))) f (Contains-append_right ((s16.faults n s) ++ ((s21.faults n s) ++ (s22.faults n s))) (((s20.faults n s) ++ (p01.faults n s)) ++ (((s29.faults n s) ++ ((s30.faults n s) ++ ((s31.faults n s) ++ ((s32.faults n s) ++ (s33.faults n s))))) ++ ((s35.faults n) ++ (s36.faults n s)))) f (Contains-append_right ((s20.faults n s) ++ (p01.faults n s)) (((s29.faults n s) ++ ((s30.faults n s) ++ ((s31.faults n s) ++ ((s32.faults n s) ++ (s33.faults n s))))) ++ ((s35.faults n) ++ (s36.faults n s))) f (Contains-append_right ((s29.faults n s) ++ ((s30.faults n s) ++ ((s31.faults n s) ++ ((s32.faults n s) ++ (s33.faults n s))))) ((s35.faults n) ++ (s36.faults n s)) f (Contains-append_left (s35.faults n) (s36.faults n s) f h)))))
+  all ifaces complete (by_s36 h) = in_nodes ifaces (Contains-append_right (s03.faults n) (((s16.faults n s) ++ ((s21.faults n s) ++ (s22.faults n s))) ++ (((s20.faults n s) ++ (p01.faults n s)) ++ (((s29.faults n s) ++ ((s30.faults n s) ++ ((s31.faults n s) ++ ((s32.faults n s) ++ (s33.faults n s))))) ++ ((s35.faults n) ++ (s36.faults n s))))) f (Contains-append_right ((s16.faults n s) ++ ((s21.faults n s) ++ (s22.faults n s))) (((s20.faults n s) ++ (p01.faults n s)) ++ (((s29.faults n s) ++ ((s30.faults n s) ++ ((s31.faults n s) ++ ((s32.faults n s) ++ (s33.faults n s))))) ++ ((s35.faults n) ++ (s36.faults n s)))) f (Contains-append_right ((s20.faults n s) ++ (p01.faults n s)) (((s29.faults n s) ++ ((s30.faults n s) ++ ((s31.faults n s) ++ ((s32.faults n s) ++ (s33.faults n s))))) ++ ((s35.faults n) ++ (s36.faults n s))) f (Contains-append_right ((s29.faults n s) ++ ((s30.faults n s) ++ ((s31.faults n s) ++ ((s32.faults n s) ++ (s33.faults n s))))) ((s35.faults n) ++ (s36.faults n s)) f (Contains-append_right (s35.faults n) (s36.faults n s) f h)))))
+  all ifaces complete (by_p01 h) = in_nodes ifaces (Contains-append_right (s03.faults n) (((s16.faults n s) ++ ((s21.faults n s) ++ (s22.faults n s))) ++ (((s20.faults n s) ++ (p01.faults n s)) ++ (((s29.faults n s) ++ ((s30.faults n s) ++ ((s31.faults n s) ++ ((s32.faults n s) ++ (s33.faults n s))))) ++ ((s35.faults n) ++ (s36.faults n s))))) f (Contains-append_right ((s16.faults n s) ++ ((s21.faults n s) ++ (s22.faults n s))) (((s20.faults n s) ++ (p01.faults n s)) ++ (((s29.faults n s) ++ ((s30.faults n s) ++ ((s31.faults n s) ++ ((s32.faults n s) ++ (s33.faults n s))))) ++ ((s35.faults n) ++ (s36.faults n s)))) f (Contains-append_left ((s20.faults n s) ++ (p01.faults n s)) (((s29.faults n s) ++ ((s30.faults n s) ++ ((s31.faults n s) ++ ((s32.faults n s) ++ (s33.faults n s))))) ++ ((s35.faults n) ++ (s36.faults n s))) f (Contains-append_right (s20.faults n s) (p01.faults n s) f h))))
+  all ifaces complete (by_p02 h) = in_roots ifaces (Contains-append_right (s23.faults s) ((s24.faults s) ++ ((s25.faults s) ++ ((s34.faults n s) ++ (p02.faults files s)))) f (Contains-append_right (s24.faults s) ((s25.faults s) ++ ((s34.faults n s) ++ (p02.faults files s))) f (Contains-append_right (s25.faults s) ((s34.faults n s) ++ (p02.faults files s)) f (Contains-append_right (s34.faults n s) (p02.faults files s) f h))))
 
 -- the faults that the code found
 pub together : (files : Files) (s : Schema) (ifaces found_all : List Fault) → ((f : Fault) → Contains ifaces f → iface.IsInterfaceFault s f) → ((f : Fault) → iface.IsInterfaceFault s f → Contains ifaces f)
-    → found_all ≡ (((ifaces ++ node_faults (nodes_in files) s) ++ definition_faults (nodes_in files) s) ++ type_faults s) ++ root_faults (nodes_in files) s
+    → found_all ≡ (((ifaces ++ node_faults (nodes_in files) s) ++ definition_faults (nodes_in files) s) ++ type_faults s) ++ root_faults files (nodes_in files) s
     → (f : Fault) → Contains found_all f ↔ FaultsBy files s f
 together files s ifaces found_all sound complete is f = (
   λ h. found files s f ifaces (sound f) (subst (λ xs. Contains xs f) is h),

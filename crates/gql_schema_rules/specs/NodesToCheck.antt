@@ -1,5 +1,6 @@
 -- Helper definitions for private contracts: the nodes that the rules for all files together visit.
 use Rattle.std.specs.Prelude.{◌≡◌, List, [], flat_map}
+use Rattle.gql_ast.specs.declared.files.Files.{Files}
 use Rattle.gql_ast.specs.declared.type_system.TypeDefinition.{TypeDefinition}
 use Rattle.gql_node_rules.specs.FileFaults.{joint_on_schema}
 use Rattle.gql_node_rules.specs.Nodes.{AllNodes, each}
@@ -17,4 +18,4 @@ pub record AreOnce (n : AllNodes) : Type 0 where
 pub record FindsSame (s : Schema) (these all : AllNodes) : Type 0 where
   pub joint : joint_on_schema these s ≡ joint_on_schema all s
   pub definitions : definition_faults these s ≡ definition_faults all s
-  pub roots : root_faults these s ≡ root_faults all s
+  pub roots : (files : Files) → root_faults files these s ≡ root_faults files all s

@@ -2,6 +2,7 @@
 -- others are helper definitions for private contracts.
 use Rattle.std.specs.Prelude.{List, ◌++◌, flat_map}
 use Rattle.gql_ast.specs.declared.fault.Fault.{Fault}
+use Rattle.gql_ast.specs.declared.files.Files.{Files}
 use Rattle.gql_node_rules.specs.Nodes.{AllNodes}
 use Rattle.gql_faults.specs.Directives.{first_directives}
 use Rattle.gql_types.specs.declared.schema.Schema.{Schema}
@@ -49,6 +50,6 @@ type_faults_on s types defaulted = flat_map s05.fault_of_type types
     ++ (arguments_on s types ++ defaults_on s defaulted)))
 
 -- the faults of root operation types: S23, S24, S25, S34, P02
-abbrev pub root_faults : AllNodes → Schema → List Fault
-root_faults n s = s23.faults s
-    ++ (s24.faults s ++ (s25.faults s ++ (s34.faults n s ++ p02.faults s)))
+abbrev pub root_faults : Files → AllNodes → Schema → List Fault
+root_faults files n s = s23.faults s
+    ++ (s24.faults s ++ (s25.faults s ++ (s34.faults n s ++ p02.faults files s)))

@@ -1,7 +1,7 @@
 -- S04, Built-In Names: a built-in scalar or directive, or Float, is defined again (GraphQL 3.3; on
 -- directives this registry's own rule).
 -- Reported at the name in the definition, about the name.
-use Rattle.std.specs.Prelude.{ℕ, List, [], ◌++◌, ◌||◌, Bool, bytes_eq, flat_map, if◌then◌else◌}
+use Rattle.std.specs.Prelude.{ℕ, List, [], ◌++◌, Bool, true, bytes_eq, flat_map, if◌then◌else◌}
 use Rattle.std.specs.List.{list_any}
 use Rattle.gql_ast.specs.declared.fault.Fault.{Fault}
 use Rattle.gql_ast.specs.declared.rule.Rule.TheVariants as rule
@@ -12,12 +12,11 @@ use Rattle.gql_built_in.specs.declared.sited.Sited.{Sited}
 use Rattle.gql_built_in.specs.BuiltIn as built_in
 use Rattle.gql_faults.specs.Faults.{fault_of}
 use Rattle.gql_node_rules.specs.Nodes.{AllNodes, each}
-use Rattle.gql_node_rules.specs.P01FloatReferences.{is_float}
 
--- whether a name is that of a built-in scalar, or `Float`
+-- whether a name is that of a built-in scalar, or `Float`, which is one where it is served
 abbrev pub is_scalar_name : List ℕ → Bool
 is_scalar_name name =
-    list_any (λ (d : TypeDefinition). bytes_eq name d.name.text) built_in.scalars || is_float name
+    list_any (λ (d : TypeDefinition). bytes_eq name d.name.text) (built_in.scalars true)
 
 -- whether a name is that of a built-in directive
 abbrev pub is_directive_name : List ℕ → Bool

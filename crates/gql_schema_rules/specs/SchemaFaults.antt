@@ -87,8 +87,8 @@ pub data FaultsBy (files : Files) (s : Schema) (f : Fault) : Type 0 where
   by_s34 : Contains (s34.faults (nodes_in files) s) f → FaultsBy files s f
   by_s35 : Contains (s35.faults (nodes_in files)) f → FaultsBy files s f
   by_s36 : Contains (s36.faults (nodes_in files) s) f → FaultsBy files s f
-  by_p01 : Contains (p01.faults (nodes_in files)) f → FaultsBy files s f
-  by_p02 : Contains (p02.faults s) f → FaultsBy files s f
+  by_p01 : Contains (p01.faults (nodes_in files) s) f → FaultsBy files s f
+  by_p02 : Contains (p02.faults files s) f → FaultsBy files s f
 
 -- a fault of the schema of these files
 abbrev pub IsSchemaFault : Files → Fault → Type 0

@@ -11,7 +11,7 @@ ghost use Rattle.gql_types.specs.declared.schema.Schema.{Schema as TheSchema};
 ghost use Rattle.gql_schema_rules.specs.ChecksOfFiles.{AreChecksOf, DiffersAt};
 ghost use Rattle.gql_schema_rules.specs.KeptFaults.{AreFaultsOf};
 ghost use Rattle.gql_schema_rules.specs.OtherFaults.{AreOthers, faults_in};
-ghost use Rattle.gql_schema_rules.specs.SchemaFaults.{FaultsBy, IsSchemaFault, nodes_in};
+ghost use Rattle.gql_schema_rules.specs.SchemaFaults.{FaultsBy, IsSchemaFault};
 ghost use Rattle.gql_schema_rules.specs.TypesToCheck.{AreEnough};
 
 use crate::file_checks::{checks_after_edit, checks_of};
@@ -95,7 +95,7 @@ fn all_faults(
     others: Vec<Fault>,
 ) -> Result<Vec<Shared<Fault>>, AllocError>
     ensures { IfOk result (λ all. (files : TheFiles) → (s : TheSchema)
-        → AreChecksOf s files.schema checks.now → AreOthers (nodes_in files) s others.items
+        → AreChecksOf s files.schema checks.now → AreOthers files s others.items
         → (f : TheFault) → Contains all.items f ↔ FaultsBy files s f) }
 {
     laws::node_faults_by_files();

@@ -4,7 +4,6 @@ ghost use Rattle.gql_node_rules.specs.FileFaults.{joint_on_types};
 ghost use Rattle.gql_schema_rules.specs.ChecksOfFiles.{AreChecksOf};
 ghost use Rattle.gql_schema_rules.specs.OtherFaults.{AreOthers, ListsInterfaces};
 ghost use Rattle.gql_schema_rules.specs.RuleGroups as groups;
-ghost use Rattle.gql_schema_rules.specs.SchemaFaults.{nodes_in};
 ghost use Rattle.gql_schema_rules.specs.TypesToCheck.{AreEnough};
 ghost use Rattle.gql_types.specs.Schemas.{schema_of};
 
@@ -49,9 +48,10 @@ pub fn keeps_joint(were_sound: bool, change: &SchemaChange) -> bool
 /// all input types as they are.
 pub fn keeps_defaults(were_sound: bool, change: &SchemaChange) -> bool
     ensures sound { IsTrue result → IsTrue were_sound }
+    ensures floats { IsTrue result → change.now.floats ≡ false }
     ensures inputs { IsTrue result → change.now.inputs ≡ [] }
 {
-    were_sound && change.inputs.as_slice().is_empty()
+    were_sound && !change.floats && change.inputs.as_slice().is_empty()
 }
 
 /// The edited types, if they are enough, or all types.
@@ -87,7 +87,7 @@ pub fn other_faults(
     ensures all { IfOk result (λ others. schema.now ≡ schema_of files.now
         → AreChecksOf schema.now files.now.schema checks.now
         → ListsInterfaces schema.now interfaces.items → AreEnough schema.now types.now
-        → AreOthers (nodes_in files.now) schema.now others.faults.items) }
+        → AreOthers files.now schema.now others.faults.items) }
     ensures joint { IfOk result (λ others. IsTrue others.are_joint_sound
         ↔ (joint_on_types schema.now types.now.joint.now ≡ [])) }
     ensures sound { IfOk result (λ others. IsTrue others.are_types_sound ↔
@@ -104,7 +104,7 @@ pub fn other_faults(
     let of_types = type_faults(alloc, schema, types.own, types.defaulted)?;
     let are_types_sound = are_none(of_types.as_slice());
     add_all(&mut faults, of_types)?;
-    add_root_faults(alloc, schema, &nodes, &mut faults)?;
+    add_root_faults(alloc, files, schema, &nodes, &mut faults)?;
     Ok(OtherFaults {
         faults,
         are_joint_sound,

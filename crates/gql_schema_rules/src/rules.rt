@@ -9,7 +9,7 @@ use crate::{
     s18_bad_default_values, s23_missing_query_root, s24_non_object_roots, s25_shared_root_types,
     s27_extensions_of_unknown_types, s28_extensions_of_another_kind, s34_duplicate_schemas,
 };
-use gql_ast::Fault;
+use gql_ast::{Fault, Files};
 use gql_node_rules::Nodes;
 use gql_types::{Batched, Schema, SchemaType};
 use std::alloc::{AllocError, Global};
@@ -54,18 +54,19 @@ pub fn type_faults(
 /// S23, S24, S25, S34 and P02.
 pub fn add_root_faults(
     alloc: Global,
+    files: &Files,
     schema: &Schema,
     nodes: &Nodes<'_>,
     faults: &mut Vec<Fault>,
 ) -> Result<(), AllocError>
     ensures { OnOk result (faults.new.items ≡ faults.old.items
-        ++ spec.root_faults (lists nodes.now) schema.now) }
+        ++ spec.root_faults files.now (lists nodes.now) schema.now) }
 {
     s23_missing_query_root::check(alloc, schema, faults)?;
     s24_non_object_roots::check(alloc, schema, faults)?;
     s25_shared_root_types::check(alloc, schema, faults)?;
     s34_duplicate_schemas::check(alloc, schema, nodes, faults)?;
-    p02_subscription_roots::check(alloc, schema, faults)?;
+    p02_subscription_roots::check(alloc, files, schema, faults)?;
     Ok(())
 }
 

@@ -65,14 +65,15 @@ is_input (tree.Schema definition) = false
 is_input (tree.Directive definition) = false
 is_input (tree.SchemaExtension extension) = false
 
-none_built_in : list_any (λ (d : Sited Tree). is_input d.node) built_in ≡ false
+none_built_in : (floats : Bool) → list_any (λ (d : Sited Tree). is_input d.node) (built_in floats) ≡ false
 unfolding built_in scalars introspection type_kinds directive_locations directives skip include deprecated specified_by append type_of directive same_kind of_no_file
-none_built_in = refl
+none_built_in true = refl
+none_built_in false = refl
 
 -- ---- definitions and extensions of types
 
 in_type : (file : Option (List ℕ)) (node : Tree) (d : Sited TypeDefinition) → Contains (type_in file node) d → (d.file ≡ file) × (is_input node ≡ is_object d.node.parts)
-in_type file (tree.Type definition) d has = by (names_a_type definition.name.text) has where
+in_type file (tree.Type definition) d has = by (names_a_type file definition.name.text) has where
   by : (b : Bool) → Contains (if b then record { file = file; node = definition } ∷ [] else []) d → (d.file ≡ file) × (is_object definition.parts ≡ is_object d.node.parts)
   by true h = elim (Contains-cases d (record { file = file; node = definition }) [] h) [
     | inl e ↦ (ap (λ (x : Sited TypeDefinition). x.file) e, sym (ap (λ (x : Sited TypeDefinition). is_object x.node.parts) e))
@@ -107,8 +108,8 @@ of_a_file files x has =
 module _ (files : Files) where
   -- a definition is not that of an input object, or stands in a file
   by_place : (x : Sited Tree) → Contains (definitions files) x → is_input x.node ≡ true → is_some x.file ≡ true
-  by_place x has is = elim (Contains-append_cases built_in (of_files files.schema) x has) [
-    | inl there ↦ absurd (true≢false (sym is ∙ none_of (λ (d : Sited Tree). is_input d.node) built_in none_built_in x there))
+  by_place x has is = elim (Contains-append_cases (built_in files.profile.floats) (of_files files.schema) x has) [
+    | inl there ↦ absurd (true≢false (sym is ∙ none_of (λ (d : Sited Tree). is_input d.node) (built_in files.profile.floats) (none_built_in files.profile.floats) x there))
     | inr there ↦ of_a_file files.schema x there
   ]
 

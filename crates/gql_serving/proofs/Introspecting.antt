@@ -1,7 +1,7 @@
 -- Schema files without faults have what introspection needs: by S20 and P01 each type that a file
 -- refers to is known, by S23 there is a query root, and by S03 no file extends a type of a reserved
 -- name.
-use Rattle.std.proofs.Common.{◌≡◌, ◌++◌, ◌||◌, inl, inr, ℕ, List, [], ◌∷◌, Bool, true, false, true≢false, if◌then◌else◌, flat_map, find, bytes_eq, is_some, Option, Some, None, Contains, codes, refl, ap, sym, subst, ◌∙◌}
+use Rattle.std.proofs.Common.{◌≡◌, ◌++◌, ◌||◌, inl, inr, ℕ, List, [], ◌∷◌, Bool, true, false, if◌then◌else◌, flat_map, find, bytes_eq, is_some, Option, Some, None, Contains, codes, refl, ap, sym, subst, ◌∙◌}
 use Rattle.std.specs.List.{starts_with}
 use Rattle.std.specs.Option.{option_map_or}
 use Rattle.std.specs.Prelude.{eqb}
@@ -56,26 +56,18 @@ module _ (files : Files) (sound : IsSound files) where
   -- ---- a reference is known, by S20 and P01
 
   referred : (n : Sited Name) → Contains (references (nodes_in files)) n → is_some n.file ≡ true → HasTypeNamed s n.node.text
-  referred n has placed = by_float (p01.is_float n.node.text) refl where
-    by_known : (is_some (type_named s n.node.text) || p01.is_float n.node.text) ≡ true → p01.is_float n.node.text ≡ false → HasTypeNamed s n.node.text
-    by_known known plain = or_left (is_some (type_named s n.node.text)) (p01.is_float n.node.text) known plain where
-      or_left : (a c : Bool) → (a || c) ≡ true → c ≡ false → a ≡ true
-      or_left true c h e = refl
-      or_left false c h e = absurd (true≢false (sym h ∙ e))
-
-    by_listed : p01.is_float n.node.text ≡ false → (c : Bool) → s20.is_known s n.node.text ≡ c → HasTypeNamed s n.node.text
-    by_listed plain true known = by_known known plain
-    by_listed plain false unknown =
+  referred n has placed = by (is_some (type_named s n.node.text)) (p01.is_float n.node.text) refl refl where
+    by : (c float : Bool) → is_some (type_named s n.node.text) ≡ c → p01.is_float n.node.text ≡ float → HasTypeNamed s n.node.text
+    by true float known e = known
+    by false true unknown e =
+        let x = fault_there rule.P01 n.node.text n.file n.node.place placed in
+        absurd (sound x.0 (by_p01 (Contains-flat_map (p01.fault_of_name s) (references (nodes_in files)) n x.0 has
+        (subst (λ c. Contains (if c then [] else p01.fault_of_unknown n) x.0) (sym unknown)
+        (subst (λ c. Contains (if c then fault_of rule.P01 n else []) x.0) (sym e) x.1)))))
+    by false false unknown e =
         let x = fault_there rule.S20 n.node.text n.file n.node.place placed in
         absurd (sound x.0 (by_s20 (Contains-flat_map (s20.fault_of_name s) (references (nodes_in files)) n x.0 has
-        (subst (λ c. Contains (if c then [] else fault_of rule.S20 n) x.0) (sym unknown) x.1))))
-
-    by_float : (c : Bool) → p01.is_float n.node.text ≡ c → HasTypeNamed s n.node.text
-    by_float true float =
-        let x = fault_there rule.P01 n.node.text n.file n.node.place placed in
-        absurd (sound x.0 (by_p01 (Contains-flat_map p01.fault_of_name (references (nodes_in files)) n x.0 has
-        (subst (λ c. Contains (if c then fault_of rule.P01 n else []) x.0) (sym float) x.1))))
-    by_float false plain = by_listed plain (s20.is_known s n.node.text) refl
+        (subst (λ c. Contains (if c then [] else fault_of rule.S20 n) x.0) (sym (ap (λ c. c || p01.is_float n.node.text) unknown ∙ e)) x.1))))
 
   -- a type that is written so
   known_type : (n : Sited Name) (x : TypeRef) → n.node ≡ of_ref.name_in x → HasTypeNamed s n.node.text → IsKnown s (written x)

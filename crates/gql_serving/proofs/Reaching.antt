@@ -11,8 +11,9 @@ use Rattle.gql_ast.specs.declared.files.Files.{Files}
 use Rattle.gql_collect.specs.Spreads.{LeadsTo, spread, further, NoCycles, selections_in, spreads_of}
 use Rattle.gql_collect.specs.Unfolding.{Given, fragment_named}
 use Rattle.gql_facts.specs.Facts.{answer, fact_of, fragment_in, fragments}
-use Rattle.gql_facts.specs.ListMembers.{Contains-nil, Contains-cases, Contains-flat_map, Contains-flat_map_from, found_in}
-use Rattle.gql_facts.specs.OwnReads.{own_reads, tree_reads}
+use Rattle.gql_facts.specs.Floats.{float_read}
+use Rattle.gql_facts.specs.ListMembers.{Contains-nil, Contains-there, Contains-cases, Contains-flat_map, Contains-flat_map_from, found_in}
+use Rattle.gql_facts.specs.OwnReads.{fragment_reads, operation_reads, own_reads, tree_reads}
 use Rattle.gql_facts.specs.Reads.{Reaches, by_definition, by_fragment}
 use Rattle.gql_facts.specs.declared.fact.Fact.TheVariants as fact
 use Rattle.gql_facts.specs.declared.fact.FragmentFact.{FragmentFact}
@@ -86,12 +87,16 @@ module _ (files : Files) (values : Data) where
     by earlier (Some g) is h =
         by_fragment (earlier g is) (fragment_asks (fact_of files) g.fragment n h) (known n f e)
 
+  -- the definition of a fragment asks for what the fragment spreads
+  definition_asks : (f : FragmentFact) → Asks (definition_of f) f.fragment.selections
+  definition_asks f n h = Contains-there (key.FragmentOf n) float_read (fragment_reads (fact_of files) f.fragment) (fragment_asks (fact_of files) f.fragment n h)
+
   -- ---- no cycles
 
   module _ (d : Definition) (operation : Operation) (is : d.tree ≡ tree.Operation operation) (clean : HasNoFault files d) where
     own_asks : Asks d operation.selections
     own_asks n h = subst (λ t. Contains (tree_reads (fact_of files) t) (key.FragmentOf n)) (sym is)
-        (operation_asks (fact_of files) operation n h)
+        (Contains-there (key.FragmentOf n) float_read (operation_reads (fact_of files) operation) (operation_asks (fact_of files) operation n h))
 
     pub acyclic : NoCycles given operation.selections
     acyclic n l back = by (fragment_named given n) refl back where
@@ -101,7 +106,7 @@ module _ (files : Files) (values : Data) where
           let x = definition_of f in
           let there = (found_in (λ (g : FragmentFact). bytes_eq n g.fragment.name.text) (fragments files.documents) f e).0 in
           let cyclic : v16.IsCyclic (fact_of files) x f.fragment =
-          reached x f.fragment.selections (fragment_asks (fact_of files) f.fragment) n f back e in
+          reached x f.fragment.selections (definition_asks f) n f back e in
           clean x (v16.fault (owner_of x) f.fragment) (defined files.documents f there)
           (faults.by_definition (of_cycle refl cyclic))
           (owned.by_fragment (reached d operation.selections own_asks n f l e) refl)

@@ -58,7 +58,7 @@ same_name x = ind-TypeRef SameName (λ x y same. subst (λ z. SameName (roll-Typ
 -- ---- definitions by their forms
 
 type_is : (file : Option (List ℕ)) (node : Tree) (d : Sited TypeDefinition) → Contains (type_in file node) d → (d.file ≡ file) × (node ≡ tree.Type d.node)
-type_is file (tree.Type definition) d has = by (names_a_type definition.name.text) has where
+type_is file (tree.Type definition) d has = by (names_a_type file definition.name.text) has where
   by : (b : Bool) → Contains (if b then record { file = file; node = definition } ∷ [] else []) d → (d.file ≡ file) × (tree.Type definition ≡ tree.Type d.node)
   by true h = elim (Contains-cases d (record { file = file; node = definition }) [] h) [
     | inl e ↦ (ap (λ (x : Sited TypeDefinition). x.file) e, sym (ap (λ (x : Sited TypeDefinition). tree.Type x.node) e))
@@ -145,8 +145,8 @@ module _ (files : Files) where
   Where x = KnownTree files x.node ⊎ (Contains ds x × (is_some x.file ≡ true))
 
   where_is : (x : Sited Tree) → Contains (definitions files) x → Where x
-  where_is x has = elim (Contains-append_cases built_in ds x has) [
-    | inl there ↦ inl (each_has (λ (y : Sited Tree). KnownTree files y.node) built_in x (built_in_known files) there)
+  where_is x has = elim (Contains-append_cases (built_in files.profile.floats) ds x has) [
+    | inl there ↦ inl (each_has (λ (y : Sited Tree). KnownTree files y.node) (built_in files.profile.floats) x (built_in_known files files.profile.floats) there)
     | inr there ↦ inr (there, of_a_file files.schema x there)
   ]
 

@@ -1,4 +1,6 @@
--- Where the schema and an operation have no fault, the root type of the operation is an object type.
+-- Where the schema and an operation have no fault, the root type of the operation is an object type,
+-- and the operation is a subscription only where the profile has subscriptions.
+use Rattle.std.specs.Prelude.{◌≢◌}
 use Rattle.std.proofs.Common.{◌≡◌, ℕ, List, [], ◌∷◌, ◌++◌, Bool, true, false, ◌||◌, Option, Some, None, is_some, flat_map, codes, bytes_eq, if◌then◌else◌, Contains, refl, ap, sym, ◌∙◌, subst, inl, inr, rules}
 use Rattle.std.proofs.lemmas.List.Elements.{Contains-append_left, Contains-append_right, Contains-append_cases}
 use Rattle.std.proofs.lemmas.Slice.Eq.{bytes_eq-Decides}
@@ -20,7 +22,6 @@ use Rattle.gql_ast.specs.declared.type_system.RootOperation.{RootOperation}
 use Rattle.gql_ast.specs.declared.type_system.SchemaDefinition.{SchemaDefinition}
 use Rattle.gql_ast.specs.declared.type_system.SchemaExtension.{SchemaExtension}
 use Rattle.gql_ast.specs.declared.type_system.TypeDefinition.{TypeDefinition}
-use Rattle.gql_ast.specs.declared.type_system.TypeExtension.{TypeExtension}
 use Rattle.gql_built_in.specs.BuiltIn.{built_in}
 use Rattle.gql_built_in.specs.declared.sited.Sited.{Sited}
 use Rattle.gql_facts.specs.Facts.{answer, fact_of}
@@ -41,7 +42,8 @@ use Rattle.gql_rules.specs.P05MutationsWithoutARoot as p05
 use Rattle.gql_rules.specs.Parts.{name_or_empty}
 use Rattle.gql_schema_rules.specs.S23MissingQueryRoot as s23
 use Rattle.gql_schema_rules.specs.S24NonObjectRoots as s24
-use Rattle.gql_schema_rules.specs.SchemaFaults.{by_p01, by_s20, by_s23, by_s24, nodes_in}
+use Rattle.gql_schema_rules.specs.P02SubscriptionRoots as p02
+use Rattle.gql_schema_rules.specs.SchemaFaults.{by_p01, by_p02, by_s20, by_s23, by_s24, nodes_in}
 use Rattle.gql_serving.specs.Laws.{HasNoFault}
 use Rattle.gql_serving.specs.Owned as owned
 use Rattle.gql_serving.specs.SoundSchemas.{IsSound}
@@ -86,6 +88,13 @@ fault_there r n (file, e) =
 same_is : (a b : TypeKind) → same_kind a b ≡ true → a ≡ b
 unfolding same_kind
 same_is a b h = same_true of_type.the_type (search rules) a b h
+
+-- the test for subscriptions does not depend on the order of the two kinds
+same_back : (k : OperationKind) → same_operation operation.Subscription k ≡ true → same_operation k operation.Subscription ≡ true
+unfolding same_operation
+same_back operation.Subscription e = refl
+same_back operation.Query e = e
+same_back operation.Mutation e = e
 
 -- ---- the roots of a schema without faults
 
@@ -136,8 +145,8 @@ module _ (files : Files) (sound : IsSound files) where
   schema_node : (x : Sited SchemaDefinition) → Contains (schema_definitions ds) x → IsNode (nodes_in files).schemas x
   schema_node x h =
       let r = Contains-flat_map_from (λ (d : Sited Tree). schema_in d.file d.node) ds x h in
-      elim (Contains-append_cases built_in (of_files files.schema) r.0 r.1) [
-        | inl i ↦ absurd (no_schema r.0 x i r.2)
+      elim (Contains-append_cases (built_in files.profile.floats) (of_files files.schema) r.0 r.1) [
+        | inl i ↦ absurd (no_schema files.profile.floats r.0 x i r.2)
         | inr i ↦
             let one = one_schema r.0.file r.0.node x r.2 in
             let place = placed files.schema r.0 i in
@@ -150,8 +159,8 @@ module _ (files : Files) (sound : IsSound files) where
   extension_node : (x : Sited SchemaExtension) → Contains (schema_extensions ds) x → IsNode (nodes_in files).schema_extensions x
   extension_node x h =
       let r = Contains-flat_map_from (λ (d : Sited Tree). schema_extension_in d.file d.node) ds x h in
-      elim (Contains-append_cases built_in (of_files files.schema) r.0 r.1) [
-        | inl i ↦ absurd (no_extension r.0 x i r.2)
+      elim (Contains-append_cases (built_in files.profile.floats) (of_files files.schema) r.0 r.1) [
+        | inl i ↦ absurd (no_extension files.profile.floats r.0 x i r.2)
         | inr i ↦
             let one = one_extension r.0.file r.0.node x r.2 in
             let place = placed files.schema r.0 i in
@@ -191,8 +200,9 @@ module _ (files : Files) (sound : IsSound files) where
     by : (b c : Bool) → is_some (type_named s n.node.text) ≡ b → p01.is_float n.node.text ≡ c → (k : TypeKind) × (kind_named s n.node.text ≡ Some k)
     by true c e e' = kind_there n.node.text e
     by false true e e' = absurd (sound (at rule.P01) (by_p01
-        (Contains-flat_map p01.fault_of_name (references (nodes_in files)) n (at rule.P01) h
-        (subst (λ b. Contains (if b then fault_of rule.P01 n else []) (at rule.P01)) (sym e') (fault_there rule.P01 n place).1))))
+        (Contains-flat_map (p01.fault_of_name s) (references (nodes_in files)) n (at rule.P01) h
+        (subst (λ b. Contains (if b then [] else p01.fault_of_unknown n) (at rule.P01)) (sym e)
+        (subst (λ b. Contains (if b then fault_of rule.P01 n else []) (at rule.P01)) (sym e') (fault_there rule.P01 n place).1)))))
     by false false e e' = absurd (sound (at rule.S20) (by_s20
         (Contains-flat_map (s20.fault_of_name s) (references (nodes_in files)) n (at rule.S20) h
         (subst (λ b. Contains (if b then [] else fault_of rule.S20 n) (at rule.S20)) (sym (ap (λ b. b || p01.is_float n.node.text) e ∙ e')) (fault_there rule.S20 n place).1))))
@@ -270,8 +280,8 @@ module _ (files : Files) (sound : IsSound files) where
       let there : Contains (type_definitions ds) x =
       subst (λ z. Contains (type_definitions ds) z) same (first_from (type_definitions ds) q.0 q.1) in
       let r = Contains-flat_map_from (λ (d : Sited Tree). type_in d.file d.node) ds x there in
-      elim (Contains-append_cases built_in (of_files files.schema) r.0 r.1) [
-        | inl i ↦ absurd (no_type name free r.0 x i r.2 e)
+      elim (Contains-append_cases (built_in files.profile.floats) (of_files files.schema) r.0 r.1) [
+        | inl i ↦ absurd (no_type files.profile.floats name free r.0 x i r.2 e)
         | inr i ↦ let place = placed files.schema r.0 i in (place.0, type_place r.0.file r.0.node x r.2 ∙ place.1)
       ]
 
@@ -378,15 +388,34 @@ module _ (files : Files) (sound : IsSound files) where
       by (Some root) is = of_root operation.Mutation root is
       by None is =
           let f = own.fault_at (owner_of d) rule.P05 (name_or_empty o.name) o.place in
-          absurd (no_own f refl (Contains-append_right (p03.faults (owner_of d) o) _ f
+          absurd (no_own f refl (Contains-append_right (p03.faults (fact_of files) (owner_of d) o) _ f
           (Contains-append_left (p05.faults (fact_of files) (owner_of d) o) _ f
           (subst (λ k. Contains (p05.faults_by (owner_of d) o k (root_in (fact_of files (key.RootOf k)))) f) (sym e)
           (subst (λ r. Contains (p05.faults_by (owner_of d) o operation.Mutation (root_in (answer (λ (x : Root). fact.Root x.name.node.text) r))) f) (sym is)
           (Contains-here f []))))))
-    by_kind operation.Subscription e =
-        let f = own.fault_at (owner_of d) rule.P03 (name_or_empty o.name) o.place in
-        absurd (no_own f refl (Contains-append_left (p03.faults (owner_of d) o) _ f
-        (subst (λ k. Contains (p03.faults_by (owner_of d) o k) f) (sym e) (Contains-here f []))))
+    by_kind operation.Subscription e = by (root_of s operation.Subscription) refl where
+      by : (r : Option Root) → root_of s operation.Subscription ≡ r → HasRoot operation.Subscription
+      by (Some root) is = of_root operation.Subscription root is
+      by None is =
+          let f = own.fault_at (owner_of d) rule.P03 (name_or_empty o.name) o.place in
+          absurd (no_own f refl (Contains-append_left (p03.faults (fact_of files) (owner_of d) o) _ f
+          (subst (λ k. Contains (p03.faults_by (owner_of d) o k (root_in (fact_of files (key.RootOf k)))) f) (sym e)
+          (subst (λ r. Contains (p03.faults_by (owner_of d) o operation.Subscription (root_in (answer (λ (x : Root). fact.Root x.name.node.text) r))) f) (sym is)
+          (Contains-here f [])))))
 
     pub has_root : HasRoot o.kind
     has_root = by_kind o.kind refl
+
+    -- ---- where the profile has no subscriptions, the operation is not one: a subscription root has a
+    -- fault by P02, and without one the operation has a fault by P03
+
+    no_subscription_root : files.profile.subscriptions ≡ false → (root : Root) → root_of s operation.Subscription ≡ Some root → ⊥
+    no_subscription_root none root e =
+        let found = found_in (λ (r : Root). same_operation operation.Subscription r.kind) s.roots root e in
+        let x = fault_there rule.P02 root.name (root_known root found.0).place in
+        sound x.0 (by_p02 (subst (λ b. Contains (if b then [] else flat_map p02.fault_of_root s.roots) x.0) (sym none)
+        (Contains-flat_map p02.fault_of_root s.roots root x.0 found.0
+        (subst (λ b. Contains (if b then fault_of rule.P02 root.name else []) x.0) (sym (same_back root.kind found.1)) x.1))))
+
+    pub no_subscription : files.profile.subscriptions ≡ false → o.kind ≢ operation.Subscription
+    no_subscription none e = let r = by_kind operation.Subscription e in no_subscription_root none r.root r.is

@@ -1,8 +1,10 @@
--- The law of operations that are served: every request of one has a response.
-use Rattle.std.specs.Prelude.{◌≡◌, Contains}
+-- The laws of operations that are served: every request of one has a response, and none is a
+-- subscription where the profile has no subscriptions.
+use Rattle.std.specs.Prelude.{◌≡◌, ◌≢◌, false, Contains}
 use Rattle.gql_ast.specs.declared.definition.Definition.{Definition}
 use Rattle.gql_ast.specs.declared.definition.Tree.TheVariants as tree
 use Rattle.gql_ast.specs.declared.executable.Operation.{Operation}
+use Rattle.gql_ast.specs.declared.executable.OperationKind.TheVariants as kinds
 use Rattle.gql_ast.specs.declared.fault.Fault.{Fault}
 use Rattle.gql_ast.specs.declared.files.Files.{Files}
 use Rattle.gql_steps.specs.Requests.{Executes, Response, request_of}
@@ -24,3 +26,11 @@ SomeAnswer = (files : Files) (d : Definition) (operation : Operation)
     → d.tree ≡ tree.Operation operation → Contains (all_definitions files.documents) d
     → IsSound files → HasNoFault files d → (variables stored : Data)
     → (p : Response) × Executes (request_of files d operation variables stored) p
+
+-- if the schema has no fault, no operation without faults is a subscription where the profile of the
+-- files has no subscriptions
+abbrev pub NoSubscriptions : Type 0
+NoSubscriptions = (files : Files) (d : Definition) (operation : Operation)
+    → files.profile.subscriptions ≡ false
+    → d.tree ≡ tree.Operation operation → Contains (all_definitions files.documents) d
+    → IsSound files → HasNoFault files d → operation.kind ≢ kinds.Subscription

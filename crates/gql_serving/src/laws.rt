@@ -24,3 +24,9 @@ pub fn some_answer()
     no_default_cycles();
     gql_exec::laws::some_response();
 }
+
+/// If the schema has no fault, no operation without faults is a subscription where the profile of
+/// the files has no subscriptions.
+pub fn no_subscriptions()
+    ensures { laws.NoSubscriptions }
+{}

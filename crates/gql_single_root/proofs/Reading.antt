@@ -15,6 +15,7 @@ use Rattle.gql_ast.specs.declared.executable.Selection.TheVariants as s
 use Rattle.gql_ast.specs.declared.executable.Spread.{Spread}
 use Rattle.gql_ast.specs.declared.text.Name.{Name}
 use Rattle.gql_facts.proofs.Parts.{scan_cons, scan_inline, scan_spread}
+use Rattle.gql_facts.specs.Floats.{float_read}
 use Rattle.gql_facts.specs.ListMembers.{Contains-nil, Contains-here, Contains-there, Contains-cases}
 use Rattle.gql_facts.specs.Members.{Lists}
 use Rattle.gql_facts.specs.Nodes.{composite, parent_within}
@@ -96,7 +97,7 @@ module _ (F : Facts) where
 
   module _ (d : Definition) (o : Operation) (is : d.tree ≡ tree.Operation o) where
     own_asked : (k : Key) → Contains (operation_reads F o) k → Contains (own_reads F d) k
-    own_asked k h = subst (λ t. Contains (own_reads F (record { file = d.file; tree = t })) k) (sym is) h
+    own_asked k h = subst (λ t. Contains (own_reads F (record { file = d.file; tree = t })) k) (sym is) (Contains-there k float_read (operation_reads F o) h)
 
     set_asked : (k : Key) → Contains (set_scan F (root_parent F o.kind) o.selections) k → Contains (own_reads F d) k
     set_asked k h = own_asked k (operation_asked o k h)

@@ -2,7 +2,7 @@
 //! or one that is an introspection field.
 //! <https://spec.graphql.org/October2021/#sec-Single-root-field>
 //!
-//! No report has its faults yet. `subscriptions.txt` of tables_rules has examples.
+//! `subscriptions.txt` of tables_rules has examples.
 ghost use Rattle.std.specs.Prelude.{◌≡◌, ◌≢◌, IfOk};
 ghost use Rattle.std.specs.List.{AllPairs};
 ghost use Rattle.gql_ast.specs.declared.definition.Tree.TheVariants as trees;

@@ -93,7 +93,7 @@ module _ (s : Site) (n : List ℕ) (p : Path) (d : Data) where
   same_scalar a b e = cc
 
   pub kind_scalar : (k : Option TypeKind) (c : Scalar) → kind_from n k ≡ value.Scalar c → value_part (of_kind s n p d k) ≡ leaf_at n s.place p (as_scalar c d)
-  kind_scalar (Some kind.Scalar) c e = leaf_is s n p (scalar_value n d) ∙ ap (λ x. leaf_at n s.place p (as_scalar x d)) (same_scalar (scalar_named n) c e)
+  kind_scalar (Some kind.Scalar) c e = leaf_is s n p (scalar_value n d) ∙ ap (λ x. leaf_at n s.place p (as_scalar x d)) (same_scalar (scalar_named false n) c e)
   kind_scalar (Some kind.Enum) c e = cc
   kind_scalar (Some kind.Object) c e = cc
   kind_scalar (Some kind.Interface) c e = cc

@@ -309,6 +309,7 @@ basis = record {
     types = codes "Query" ∷ [];
     has_int = false;
     has_id = true;
+    has_float = false;
     description = None;
     meta = meta_fields;
   };

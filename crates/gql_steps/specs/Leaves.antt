@@ -1,5 +1,5 @@
 -- The values of leaves in an answer (GraphQL 3.5, 3.9 and 6.4.3, CompleteValue).
-use Rattle.std.specs.Prelude.{ℕ, ℤ, List, bytes_eq, Option, Some, None, option_map, option_and_then, if◌then◌else◌}
+use Rattle.std.specs.Prelude.{ℕ, ℤ, List, false, bytes_eq, Option, Some, None, option_map, option_and_then, if◌then◌else◌}
 use Rattle.std.specs.Fmt.{signed_decimal}
 use Rattle.std.specs.List.{list_any}
 use Rattle.gql_inputs.specs.InputTypes.{scalar_named}
@@ -40,13 +40,20 @@ as_string d = option_map json.string (as_str d)
 abbrev pub as_boolean : Data → Option Data
 as_boolean d = option_map json.boolean (as_bool d)
 
--- a value of a scalar, if it is one; a custom scalar takes any value
+-- a Float is a number, as it is
+abbrev pub as_float : Data → Option Data
+as_float (json.number n) = Some (json.number n)
+as_float _ = None
+
+-- a value of a scalar, if it is one; a scalar of a schema file takes any value
 abbrev pub as_scalar : Scalar → Data → Option Data
 as_scalar scalar.Int d = as_int d
 as_scalar scalar.Id d = as_id d
 as_scalar scalar.String d = as_string d
 as_scalar scalar.Boolean d = as_boolean d
+as_scalar scalar.Float d = as_float d
 as_scalar scalar.Custom d = Some d
+as_scalar scalar.Open d = Some d
 
 -- a name, if it is one of these values
 abbrev pub enum_of : List (List ℕ) → List ℕ → Option Data
@@ -56,6 +63,6 @@ enum_of names s = if list_any (bytes_eq s) names then Some (json.string s) else 
 abbrev pub as_enum : List (List ℕ) → Data → Option Data
 as_enum names d = option_and_then (enum_of names) (as_str d)
 
--- a value of the scalar of this name
+-- a value of the scalar of this name; whether one of a schema file is open changes no result
 abbrev pub scalar_value : List ℕ → Data → Option Data
-scalar_value name d = as_scalar (scalar_named name) d
+scalar_value name d = as_scalar (scalar_named false name) d

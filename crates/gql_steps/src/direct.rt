@@ -83,8 +83,8 @@ fn direct_truth<'v>(value: &'v Value) -> Option<Direct<'v>>
     }
 }
 
-/// A value as one of a scalar, if it is written as it is. A custom scalar is left to
-/// `complete_scalar`, and so is an ID that is an integer.
+/// A value as one of a scalar, if it is written as it is. A Float and a
+/// scalar of a schema file are left to `complete_scalar`, and so is an ID that is an integer.
 #[inline(always)]
 pub fn direct_scalar<'v>(scalar: Scalar, value: &'v Value) -> Option<Direct<'v>>
     ensures value { IfSome result (λ x. spec.as_scalar scalar (view value.now) ≡ Some (data_of x)) }
@@ -96,7 +96,9 @@ pub fn direct_scalar<'v>(scalar: Scalar, value: &'v Value) -> Option<Direct<'v>>
         Scalar::String => direct_text(value),
         Scalar::Id => direct_text(value),
         Scalar::Boolean => direct_truth(value),
+        Scalar::Float => None,
         Scalar::Custom => None,
+        Scalar::Open => None,
     }
 }
 

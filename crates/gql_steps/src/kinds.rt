@@ -32,7 +32,7 @@ pub fn value_kind(schema: &Schema, name: &str) -> ValueKind
     ensures { result ≡ kind_in schema.now name.now }
 {
     match schema.kind(name) {
-        Some(TypeKind::Scalar) => ValueKind::Scalar(scalar_named(name)),
+        Some(TypeKind::Scalar) => ValueKind::Scalar(scalar_named(false, name)),
         Some(TypeKind::Enum) => ValueKind::Enum,
         Some(TypeKind::Object) => ValueKind::Object,
         Some(TypeKind::Interface) => ValueKind::Abstract,

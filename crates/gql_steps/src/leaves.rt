@@ -148,6 +148,31 @@ fn complete_boolean(
     }
 }
 
+/// Writes a value as it is.
+fn complete_any(run: &mut Run<'_>, value: &Value) -> Result<Ended, ExecRefusal>
+    ensures { Executes (plain (compact_text (view value.now))) result run.old run.new }
+{
+    write_any(run, value)?;
+    Ok(Ended::Written)
+}
+
+/// Completes a Float: a number.
+fn complete_float(
+    alloc: Global,
+    leaf: Leaf<'_>,
+    value: &Value,
+    run: &mut Run<'_>,
+) -> Result<Ended, ExecRefusal>
+    ensures { Executes (leaf_part leaf.entry (path_of run.old) (spec.as_float (view value.now)))
+        result run.old run.new }
+{
+    match value {
+        Value::Number(_) => complete_any(run, value),
+        Value::Null | Value::Bool(_) | Value::String(_) => not_of_type(alloc, leaf, run),
+        Value::Array(_) | Value::Object(_) => not_of_type(alloc, leaf, run),
+    }
+}
+
 /// Completes a value of a scalar.
 pub fn complete_scalar(
     alloc: Global,
@@ -164,10 +189,9 @@ pub fn complete_scalar(
         Scalar::Id => complete_id(alloc, leaf, value, run),
         Scalar::String => complete_string(alloc, leaf, value, run),
         Scalar::Boolean => complete_boolean(alloc, leaf, value, run),
-        Scalar::Custom => {
-            write_any(run, value)?;
-            Ok(Ended::Written)
-        }
+        Scalar::Float => complete_float(alloc, leaf, value, run),
+        Scalar::Custom => complete_any(run, value),
+        Scalar::Open => complete_any(run, value),
     }
 }
 

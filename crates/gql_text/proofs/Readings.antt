@@ -7,7 +7,7 @@ use Rattle.gql_text.specs.Marks.{plain_part}
 use Rattle.gql_text.specs.Pieces.{string_piece, block_piece}
 use Rattle.gql_text.specs.Place.{place_after}
 use Rattle.gql_text.specs.Lexeme.{Lexeme}
-use Rattle.gql_text.specs.Lexis.{Run, closes, goes, stops, refused_at, Stands, block_string, string, plain, Tokens, at_end, dropped, token, Faulty, here, behind_dropped, behind_token, IsLexed, LexFails, too_long, first, text_limit}
+use Rattle.gql_text.specs.Lexis.{Run, closes, goes, stops, refused_at, Stands, block_string, string, plain, Tokens, at_end, dropped, token, Faulty, here, behind_dropped, behind_token, IsLexed, LexFails, too_long, first}
 use Rattle.gql_text.specs.Laws.{HasReading}
 use Rattle.gql_text.specs.declared.place.Place.{Place}
 use Rattle.gql_text.specs.declared.token.Kind.{Kind}
@@ -115,16 +115,16 @@ not_both {before} {rest} {ts} {a} {p} (token {n = n} s t) (behind_token {n = m} 
     let both = stands_one u s in let same : m ≡ n = cc in
     not_both t (subst (λ i. Faulty (before ++ take i rest) (drop i rest) a p) same v)
 
-pub lexed_one : {source : List ℕ} {a b : List Lexeme} → IsLexed source a → IsLexed source b → a ≡ b
+pub lexed_one : {limit : ℕ} {source : List ℕ} {a b : List Lexeme} → IsLexed limit source a → IsLexed limit source b → a ≡ b
 lexed_one h g = tokens_one h.tokens_of g.tokens_of
 
-pub fails_one : {source : List ℕ} {a b : LexRefusal} {p q : Place} → LexFails source a p → LexFails source b q → (a ≡ b) × (p ≡ q)
+pub fails_one : {limit : ℕ} {source : List ℕ} {a b : LexRefusal} {p q : Place} → LexFails limit source a p → LexFails limit source b q → (a ≡ b) × (p ≡ q)
 fails_one (too_long h e) (too_long g d) = (refl, e ∙ sym d)
 fails_one (too_long h e) (first g d) = absurd (omega (arith, h, g))
 fails_one (first h e) (too_long g d) = absurd (omega (arith, h, g))
 fails_one (first h e) (first g d) = faulty_one e d
 
-pub lexed_or_fails : {source : List ℕ} {ts : List Lexeme} {a : LexRefusal} {p : Place} → IsLexed source ts → LexFails source a p → ⊥
+pub lexed_or_fails : {limit : ℕ} {source : List ℕ} {ts : List Lexeme} {a : LexRefusal} {p : Place} → IsLexed limit source ts → LexFails limit source a p → ⊥
 lexed_or_fails l (too_long h e) = omega (arith, l.short, h)
 lexed_or_fails l (first h e) = not_both l.tokens_of e
 
@@ -168,9 +168,9 @@ reads (suc fuel) before (b ∷ bs) h =
     let s = stands_from b bs (three_quotes (b ∷ bs)) (one_quote (b ∷ bs)) refl refl in
     reads_from before (b ∷ bs) (λ n some within. reads fuel (before ++ take n (b ∷ bs)) (drop n (b ∷ bs)) (omega (arith, length-drop n (b ∷ bs)))) s.0 s.1
 
-pub reading : (source : List ℕ) → HasReading source
+pub reading : (limit : ℕ) (source : List ℕ) → HasReading limit source
 unfolding Reads
-reading source = elim (cases_lt text_limit (length source)) [
+reading limit source = elim (cases_lt limit (length source)) [
   | inl h ↦ inr (TooLong, place_after [], too_long h refl)
   | inr h ↦ elim (reads (length source) [] source (omega arith)) [
     | inl r ↦ inl (r.0, record { short = h; tokens_of = r.1 })

@@ -7,10 +7,10 @@ use Rattle.gql_text.specs.declared.token.Kind.{Kind}
 use Rattle.gql_text.specs.declared.token.LexRefusal.{LexRefusal}
 use Rattle.gql_text.specs.declared.front.Part.TheVariants.{Taken}
 
--- the text has a list of tokens, or a fault
-abbrev pub HasReading : List ℕ → Type 0
-HasReading source = ((tokens : List Lexeme) × IsLexed source tokens)
-    ⊎ ((refusal : LexRefusal) × (place : Place) × LexFails source refusal place)
+-- the text has a list of tokens, or a fault, where it may have so many bytes
+abbrev pub HasReading : ℕ → List ℕ → Type 0
+HasReading limit source = ((tokens : List Lexeme) × IsLexed limit source tokens)
+    ⊎ ((refusal : LexRefusal) × (place : Place) × LexFails limit source refusal place)
 
 -- the text of the token is the part of the source at its place
 abbrev pub IsSliceOf : List ℕ → Lexeme → Type 0

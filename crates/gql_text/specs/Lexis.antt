@@ -67,24 +67,28 @@ pub data Faulty : List ℕ → List ℕ → LexRefusal → Place → Type 0 wher
       → Stands rest (Taken kind n) → Faulty (before ++ take n rest) (drop n rest) refusal place
       → Faulty before rest refusal place
 
--- how many bytes a text may have
+-- how many bytes a text may have, where nothing else is said
 abbrev pub text_limit : ℕ
 text_limit = 65536
 
--- the text is these tokens
-pub record IsLexed (source : List ℕ) (tokens : List Lexeme) : Type 0 where
-  pub short : length source ≤ text_limit
+-- the greatest limit that a caller may give
+abbrev pub longest_text : ℕ
+longest_text = 16777216
+
+-- the text, of at most so many bytes, is these tokens
+pub record IsLexed (limit : ℕ) (source : List ℕ) (tokens : List Lexeme) : Type 0 where
+  pub short : length source ≤ limit
   pub tokens_of : Tokens [] source tokens
 
--- the text has this fault, at this place
-pub data LexFails : List ℕ → LexRefusal → Place → Type 0 where
-  too_long : {source : List ℕ} {place : Place} → text_limit < length source → place ≡ place_after []
-      → LexFails source TooLong place
-  first : {source : List ℕ} {refusal : LexRefusal} {place : Place} → length source ≤ text_limit
+-- the text has this fault, at this place, where a text may have so many bytes
+pub data LexFails (limit : ℕ) : List ℕ → LexRefusal → Place → Type 0 where
+  too_long : {source : List ℕ} {place : Place} → limit < length source → place ≡ place_after []
+      → LexFails limit source TooLong place
+  first : {source : List ℕ} {refusal : LexRefusal} {place : Place} → length source ≤ limit
       → Faulty [] source refusal place
-      → LexFails source refusal place
+      → LexFails limit source refusal place
 
 -- what the lexer may answer for a text with a fault: this fault, or `Memory`
-abbrev pub IsLexFault : List ℕ → LexFault → Type 0
-IsLexFault source (lex_fault.At number place) = LexFails source number place
-IsLexFault source lex_fault.Memory = Unit {0}
+abbrev pub IsLexFault : ℕ → List ℕ → LexFault → Type 0
+IsLexFault limit source (lex_fault.At number place) = LexFails limit source number place
+IsLexFault limit source lex_fault.Memory = Unit {0}

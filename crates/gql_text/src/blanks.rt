@@ -10,7 +10,7 @@ use crate::place::{Place, past_byte, past_plain};
 
 /// The place after the blanks that are at this place.
 pub fn past_blanks(source: &[u8], place: Place) -> Place
-    requires short { length source.now ≤ 65536 }
+    requires short { length source.now ≤ 16777216 }
     requires known { place ≡ place_after (take place.offset source.now) }
     ensures { result ≡ place_after (take
         (place.offset + prefix_len is_blank (drop place.offset source.now)) source.now) }

@@ -25,7 +25,7 @@ fn count_in(stretch: &[u8], wanted: u8) -> u8
 
 /// How often a byte occurs in a text.
 fn count_of(source: &[u8], wanted: u8) -> usize
-    requires { length source.now ≤ 65536 }
+    requires { length source.now ≤ 16777216 }
     ensures { result ≡ count_by (λ b. b == wanted) source.now }
 {
     let mut total = 0;
@@ -39,7 +39,7 @@ fn count_of(source: &[u8], wanted: u8) -> usize
 
 /// The column after a whole text: the characters since the last line end, plus one.
 fn last_column(source: &[u8]) -> usize
-    requires { length source.now ≤ 65536 }
+    requires { length source.now ≤ 16777216 }
     ensures { result ≡ column_behind (reverse source.now) }
 {
     let mut column = 1;
@@ -59,7 +59,7 @@ fn last_column(source: &[u8]) -> usize
 
 /// The place after a whole text. Where LF alone ends lines they are counted.
 pub fn place_at_end(source: &[u8]) -> Place
-    requires { length source.now ≤ 65536 }
+    requires { length source.now ≤ 16777216 }
     ensures { result ≡ place_after source.now }
 {
     if count_of(source, b'\r') > 0 {

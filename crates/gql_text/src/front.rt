@@ -152,7 +152,7 @@ fn punctuator(byte: u8) -> Option<Kind>
 #[tactic(auto, unfolding(crate::specs::Marks::plain_part))]
 fn plain(first: u8, bytes: &[u8], behind: &[u8]) -> Part
     requires whole { bytes.now ≡ first ∷ behind.now }
-    requires short { length bytes.now ≤ 65536 }
+    requires short { length bytes.now ≤ 16777216 }
     requires name { is_name_start first ≡ false }
     requires mark { mark_kind first ≡ None }
     ensures { result ≡ plain_part first behind.now }
@@ -175,7 +175,7 @@ fn plain(first: u8, bytes: &[u8], behind: &[u8]) -> Part
 /// punctuator of one byte begins.
 fn other_part(first: u8, bytes: &[u8], behind: &[u8]) -> Part
     requires whole { bytes.now ≡ first ∷ behind.now }
-    requires short { length bytes.now ≤ 65536 }
+    requires short { length bytes.now ≤ 16777216 }
     requires name { is_name_start first ≡ false }
     requires mark { mark_kind first ≡ None }
     ensures { Stands bytes.now result }
@@ -192,7 +192,7 @@ fn other_part(first: u8, bytes: &[u8], behind: &[u8]) -> Part
 /// What is at the front of a text. Names and punctuators, the most frequent, come first.
 pub fn first_part(bytes: &[u8]) -> Part
     requires some { 0 < length bytes.now }
-    requires short { length bytes.now ≤ 65536 }
+    requires short { length bytes.now ≤ 16777216 }
     ensures { Stands bytes.now result }
 {
     let (first, behind) = bytes.split_first().unwrap();

@@ -13,26 +13,28 @@ ghost use Rattle.gql_text.specs.declared.token.Kind.TheVariants.{EndOfText, Name
 ghost use Rattle.gql_text.specs.declared.token.LexRefusal.{LexRefusal};
 ghost use Rattle.gql_text.specs.declared.front.Part.TheVariants.{Dropped, Taken};
 
-/// A text has tokens or a fault, never both, and no two token lists or two faults.
+/// A text has tokens or a fault, never both, and no two token lists or two faults, whatever the
+/// limit.
 pub fn one_reading()
-    ensures some { (source : List ℕ) → HasReading source }
-    ensures one_list { (source : List ℕ) (tokens others : List Lexeme)
-        → IsLexed source tokens → IsLexed source others → tokens ≡ others }
-    ensures one_fault { (source : List ℕ) (refusal other : LexRefusal) (place elsewhere : Place)
-        → LexFails source refusal place → LexFails source other elsewhere
+    ensures some { (limit : ℕ) (source : List ℕ) → HasReading limit source }
+    ensures one_list { (limit : ℕ) (source : List ℕ) (tokens others : List Lexeme)
+        → IsLexed limit source tokens → IsLexed limit source others → tokens ≡ others }
+    ensures one_fault { (limit : ℕ) (source : List ℕ) (refusal other : LexRefusal)
+        (place elsewhere : Place)
+        → LexFails limit source refusal place → LexFails limit source other elsewhere
         → (refusal ≡ other) × (place ≡ elsewhere) }
-    ensures not_both { (source : List ℕ) (tokens : List Lexeme) (refusal : LexRefusal)
+    ensures not_both { (limit : ℕ) (source : List ℕ) (tokens : List Lexeme) (refusal : LexRefusal)
         (place : Place)
-        → IsLexed source tokens → LexFails source refusal place → ⊥ }
+        → IsLexed limit source tokens → LexFails limit source refusal place → ⊥ }
 {}
 
 /// Each token's text is the part of the source at its place, and no token has the kind of the
 /// text's end.
 pub fn tokens_of_a_text()
-    ensures slices { (source : List ℕ) (tokens : List Lexeme)
-        → IsLexed source tokens → All (IsSliceOf source) tokens }
-    ensures kinds { (source : List ℕ) (tokens : List Lexeme)
-        → IsLexed source tokens → All (λ token. token.kind ≢ EndOfText) tokens }
+    ensures slices { (limit : ℕ) (source : List ℕ) (tokens : List Lexeme)
+        → IsLexed limit source tokens → All (IsSliceOf source) tokens }
+    ensures kinds { (limit : ℕ) (source : List ℕ) (tokens : List Lexeme)
+        → IsLexed limit source tokens → All (λ token. token.kind ≢ EndOfText) tokens }
 {}
 
 /// A token is as long as it can be: its text alone is that token, and no longer start of the text

@@ -6,7 +6,7 @@ ghost use Rattle.std.specs.Str.{IsCharBoundary};
 ghost use Rattle.gql_text.specs.Chars.{is_blank};
 ghost use Rattle.gql_text.specs.Place.{place_after};
 ghost use Rattle.gql_text.specs.Lexeme.{lexeme};
-ghost use Rattle.gql_text.specs.Lexis.{Stands, IsLexed, IsLexFault};
+ghost use Rattle.gql_text.specs.Lexis.{Stands, IsLexed, IsLexFault, text_limit};
 ghost use Rattle.gql_text.specs.Parts.{Fits, CutsBehind, is_value};
 ghost use Rattle.gql_text.specs.declared.front.Part.TheVariants.{Taken};
 
@@ -17,8 +17,8 @@ use crate::place::{Place, START, past, past_plain};
 use crate::token::{Kind, LexFault, LexRefusal, Token};
 use std::alloc::Global;
 
-/// How many bytes a text may have.
-const LIMIT: usize = 65536;
+/// How many bytes a text may have, where nothing else is said.
+pub const TEXT_LIMIT: usize = 65_536;
 
 /// The list of tokens has room for a token in each so many bytes from the start, and grows if there
 /// are more.
@@ -27,7 +27,7 @@ const BYTES_PER_TOKEN: usize = 4;
 /// What is at an offset of the text.
 fn part_at(source: &str, offset: usize) -> Part
     requires some { offset < length source.now }
-    requires short { length source.now ≤ 65536 }
+    requires short { length source.now ≤ 16777216 }
     requires cut { IsCharBoundary source.now offset }
     ensures stands { Stands (drop offset source.now) result }
     ensures fits { Fits 0 (length source.now - offset) result }
@@ -39,7 +39,7 @@ fn part_at(source: &str, offset: usize) -> Part
 /// The place after the next bytes.
 fn past_part(source: &str, place: Place, count: usize) -> Place
     requires within { place.offset + count ≤ length source.now }
-    requires short { length source.now ≤ 65536 }
+    requires short { length source.now ≤ 16777216 }
     requires known { place ≡ place_after (take place.offset source.now) }
     ensures value { result ≡ place_after (take (place.offset + count) source.now) }
     ensures moved { result.offset ≡ place.offset + count }
@@ -60,7 +60,7 @@ fn is_value(kind: Kind) -> bool
 /// The place after the token that is at this place.
 fn past_token(source: &str, place: Place, kind: Kind, count: usize) -> Place
     requires within { place.offset + count ≤ length source.now }
-    requires short { length source.now ≤ 65536 }
+    requires short { length source.now ≤ 16777216 }
     requires known { place ≡ place_after (take place.offset source.now) }
     requires token { Stands (drop place.offset source.now) (Taken kind count) }
     ensures value { result ≡ place_after (take (place.offset + count) source.now) }
@@ -75,7 +75,7 @@ fn past_token(source: &str, place: Place, kind: Kind, count: usize) -> Place
 
 /// The place after the blanks that are at this place.
 fn after_blanks(source: &str, place: Place) -> Place
-    requires short { length source.now ≤ 65536 }
+    requires short { length source.now ≤ 16777216 }
     requires known { place ≡ place_after (take place.offset source.now) }
     requires cut { IsCharBoundary source.now place.offset }
     ensures value { result ≡ place_after (take result.offset source.now) }
@@ -90,11 +90,24 @@ fn after_blanks(source: &str, place: Place) -> Place
 /// The tokens of a text, in order, or its first fault, 101 to 106 (2.1); `Memory` if an allocation
 /// fails. A text has at most 65,536 bytes. The tokens borrow it.
 pub fn lex<'a>(alloc: Global, source: &'a str) -> Result<Vec<Token<'a>>, LexFault>
-    ensures tokens { IfOk result (λ found. IsLexed source.now (map lexeme found.items)) }
-    ensures fault { IfErr result (λ fault. IsLexFault source.now fault) }
+    ensures tokens { IfOk result (λ found. IsLexed text_limit source.now (map lexeme found.items)) }
+    ensures fault { IfErr result (λ fault. IsLexFault text_limit source.now fault) }
+{
+    lex_within(alloc, source, TEXT_LIMIT)
+}
+
+/// The same for a text of at most so many bytes: a longer one has fault 106.
+pub fn lex_within<'a>(
+    alloc: Global,
+    source: &'a str,
+    limit: usize,
+) -> Result<Vec<Token<'a>>, LexFault>
+    requires { limit ≤ 16777216 }
+    ensures tokens { IfOk result (λ found. IsLexed limit source.now (map lexeme found.items)) }
+    ensures fault { IfErr result (λ fault. IsLexFault limit source.now fault) }
 {
     let mut place = START;
-    if source.len() > LIMIT {
+    if source.len() > limit {
         return Err(LexFault::At {
             number: LexRefusal::TooLong,
             place,
@@ -126,7 +139,7 @@ pub fn lex<'a>(alloc: Global, source: &'a str) -> Result<Vec<Token<'a>>, LexFaul
 
 /// The place after the whole text, where a text that ends too early is refused.
 pub fn end_place(source: &str) -> Place
-    requires { length source.now ≤ 65536 }
+    requires { length source.now ≤ 16777216 }
     ensures { result ≡ place_after source.now }
 {
     place_at_end(source.as_bytes())

@@ -14,7 +14,7 @@ mod place;
 mod token;
 mod value;
 
-pub use lexer::{end_place, lex};
+pub use lexer::{TEXT_LIMIT, end_place, lex, lex_within};
 pub use place::Place;
 pub use token::{Kind, LexFault, LexRefusal, Token};
 pub use value::text_value;

@@ -44,7 +44,7 @@ fn end(kind: Kind, len: usize, rest: &[u8]) -> Part
 /// The digits of an exponent, with this many bytes of the number before them.
 #[tactic(auto, unfolding(crate::specs::Number::exponent_digits))]
 fn exponent_end(len: usize, bytes: &[u8]) -> Part
-    requires { len + length bytes.now ≤ 65537 }
+    requires { len + length bytes.now ≤ 16777217 }
     ensures { result ≡ exponent_digits len bytes.now }
 {
     let digits = digits_len(bytes);
@@ -58,7 +58,7 @@ fn exponent_end(len: usize, bytes: &[u8]) -> Part
 /// The exponent that may follow a number, with this many bytes of the number before it.
 #[tactic(auto, unfolding(crate::specs::Number::exponent_part))]
 fn exponent(kind: Kind, len: usize, bytes: &[u8]) -> Part
-    requires { len + length bytes.now ≤ 65537 }
+    requires { len + length bytes.now ≤ 16777217 }
     ensures { result ≡ exponent_part kind len bytes.now }
 {
     let Some((first, behind)) = bytes.split_first() else {
@@ -75,7 +75,7 @@ fn exponent(kind: Kind, len: usize, bytes: &[u8]) -> Part
 /// The digits of a fraction, with this many bytes of the number before them.
 #[tactic(auto, unfolding(crate::specs::Number::fraction_digits))]
 fn fraction_end(len: usize, bytes: &[u8]) -> Part
-    requires { len + length bytes.now ≤ 65537 }
+    requires { len + length bytes.now ≤ 16777217 }
     ensures { result ≡ fraction_digits len bytes.now }
 {
     let digits = digits_len(bytes);
@@ -89,7 +89,7 @@ fn fraction_end(len: usize, bytes: &[u8]) -> Part
 /// The fraction or exponent that may follow an integer part of this many bytes.
 #[tactic(auto, unfolding(crate::specs::Number::fraction_part))]
 fn fraction(len: usize, bytes: &[u8]) -> Part
-    requires { len + length bytes.now ≤ 65537 }
+    requires { len + length bytes.now ≤ 16777217 }
     ensures { result ≡ fraction_part len bytes.now }
 {
     let Some((first, behind)) = bytes.split_first() else {
@@ -105,7 +105,7 @@ fn fraction(len: usize, bytes: &[u8]) -> Part
 /// The number whose digits these are, with this many bytes of it before them.
 #[tactic(auto, unfolding(crate::specs::Number::number_part))]
 pub fn number(len: usize, bytes: &[u8]) -> Part
-    requires { len + length bytes.now ≤ 65537 }
+    requires { len + length bytes.now ≤ 16777217 }
     ensures { result ≡ number_part len bytes.now }
 {
     let Some((first, behind)) = bytes.split_first() else {

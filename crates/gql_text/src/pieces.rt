@@ -216,7 +216,7 @@ fn refusal_offset(refusal: LexRefusal, read: usize) -> usize
 
 /// The string after its opening quote.
 pub fn string_part(bytes: &[u8]) -> Part
-    requires { length bytes.now ≤ 65536 }
+    requires { length bytes.now ≤ 16777216 }
     ensures { Run string_piece StringValue 1 bytes.now result }
 {
     let mut read = 0;
@@ -235,7 +235,7 @@ pub fn string_part(bytes: &[u8]) -> Part
 
 /// The block string after its opening quotes.
 pub fn block_part(bytes: &[u8]) -> Part
-    requires { length bytes.now ≤ 65536 }
+    requires { length bytes.now ≤ 16777216 }
     ensures { Run block_piece BlockString 3 bytes.now result }
 {
     let mut read = 0;

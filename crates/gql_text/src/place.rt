@@ -24,7 +24,7 @@ pub const START: Place = Place {
 /// The place after one more byte.
 pub fn past_byte(source: &[u8], place: Place) -> Place
     requires within { place.offset < length source.now }
-    requires short { length source.now ≤ 65536 }
+    requires short { length source.now ≤ 16777216 }
     requires known { place ≡ place_after (take place.offset source.now) }
     ensures { result ≡ place_after (take (place.offset + 1) source.now) }
 {
@@ -60,7 +60,7 @@ pub fn past_byte(source: &[u8], place: Place) -> Place
 
 /// The place after the next bytes, each of which is a character by itself and ends no line.
 pub fn past_plain(source: &[u8], place: Place, count: usize) -> Place
-    requires short { length source.now ≤ 65536 }
+    requires short { length source.now ≤ 16777216 }
     requires known { place ≡ place_after (take place.offset source.now) }
     requires plain { count ≤ prefix_len is_plain (drop place.offset source.now) }
     ensures { result ≡ place_after (take (place.offset + count) source.now) }
@@ -75,7 +75,7 @@ pub fn past_plain(source: &[u8], place: Place, count: usize) -> Place
 /// The place after the next bytes.
 pub fn past(source: &[u8], place: Place, count: usize) -> Place
     requires within { place.offset + count ≤ length source.now }
-    requires short { length source.now ≤ 65536 }
+    requires short { length source.now ≤ 16777216 }
     requires known { place ≡ place_after (take place.offset source.now) }
     ensures { result ≡ place_after (take (place.offset + count) source.now) }
 {

@@ -187,12 +187,12 @@ module _ {A : Type 0} (own : Sited Tree → List A) (p : A → Bool) where
             rw is (after_same e (without_file es name) es (rest left))
 
   -- with the built-in definitions
-  with_built_in : (files : List (List ℕ × Document)) → filter p (flat_map own (built_in ++ of_files files)) ≡ filter p (flat_map own built_in) ++ of_all files
-  with_built_in files = ap (filter p) (flat_map-append own built_in (of_files files)) ∙ filter-append p (flat_map own built_in) (flat_map own (of_files files))
+  with_built_in : (floats : Bool) (files : List (List ℕ × Document)) → filter p (flat_map own (built_in floats ++ of_files files)) ≡ filter p (flat_map own (built_in floats)) ++ of_all files
+  with_built_in floats files = ap (filter p) (flat_map-append own (built_in floats) (of_files files)) ∙ filter-append p (flat_map own (built_in floats)) (flat_map own (of_files files))
 
-  all_same : (fs gs : List (List ℕ × Document)) → of_all fs ≡ of_all gs
-      → filter p (flat_map own (built_in ++ of_files fs)) ≡ filter p (flat_map own (built_in ++ of_files gs))
-  all_same fs gs e = with_built_in fs ∙ ap (λ xs. filter p (flat_map own built_in) ++ xs) e ∙ sym (with_built_in gs)
+  all_same : (floats : Bool) (fs gs : List (List ℕ × Document)) → of_all fs ≡ of_all gs
+      → filter p (flat_map own (built_in floats ++ of_files fs)) ≡ filter p (flat_map own (built_in floats ++ of_files gs))
+  all_same floats fs gs e = with_built_in floats fs ∙ ap (λ xs. filter p (flat_map own (built_in floats)) ++ xs) e ∙ sym (with_built_in floats gs)
 
 -- ---- a file that has not the name
 
@@ -237,14 +237,14 @@ module _ (q : List ℕ) where
 
     after_put : (files : Files) (name : List ℕ) (document : Document) → Lacks (edited_names (file_named files.schema name) (Some document))
         → filter p (flat_map own (definitions files)) ≡ filter p (flat_map own (definitions (with_schema files name document)))
-    after_put files name document e = all_same own p files.schema (with_file files.schema name document)
+    after_put files name document e = all_same own p files.profile.floats files.schema (with_file files.schema name document)
         (sym (put_same own p name document files.schema
         (no_own document.definitions (lacks_second (type_names (file_named files.schema name)) (names_in document.definitions) e))
         (no_own_in (file_named files.schema name) (lacks_first (type_names (file_named files.schema name)) (names_in document.definitions) e))))
 
     after_removal : (files : Files) (name : List ℕ) → Lacks (edited_names (file_named files.schema name) None)
         → filter p (flat_map own (definitions files)) ≡ filter p (flat_map own (definitions (without_schema files name)))
-    after_removal files name e = all_same own p files.schema (without_file files.schema name)
+    after_removal files name e = all_same own p files.profile.floats files.schema (without_file files.schema name)
         (sym (removed_same own p name files.schema
         (no_own_in (file_named files.schema name) (lacks_first (type_names (file_named files.schema name)) [] e))))
 
@@ -257,7 +257,7 @@ abbrev its_extension : Sited Tree → List (Sited TypeExtension)
 its_extension d = extension_in d.file d.node
 
 no_type : (q : List ℕ) (file : Option (List ℕ)) (t : Tree) → Lacks q (type_name_in t) → filter (named q) (type_in file t) ≡ []
-no_type q file (tree.Type d) e = elim (either (names_a_type d.name.text)) [
+no_type q file (tree.Type d) e = elim (either (names_a_type file d.name.text)) [
   | inl h ↦ rw (h, lacks_one q d.name.text e) refl
   | inr h ↦ rw h refl
 ]

@@ -138,12 +138,12 @@ pub file_others_append : (fs gs : List (List ℕ × Document)) → others_in (of
 file_others_append fs gs = ap others_in (files_append fs gs) ∙ others_append (of_files fs) (of_files gs)
 
 -- the types of a schema are the built-in ones, then those of its files
-pub types_of_files : (files : Files) → type_definitions (definitions files) ≡ type_definitions built_in ++ type_definitions (of_files files.schema)
-types_of_files files = types_append built_in (of_files files.schema)
+pub types_of_files : (files : Files) → type_definitions (definitions files) ≡ type_definitions (built_in files.profile.floats) ++ type_definitions (of_files files.schema)
+types_of_files files = types_append (built_in files.profile.floats) (of_files files.schema)
 
 -- and so are the others
-pub others_of_files : (files : Files) → others_in (definitions files) ≡ others_in built_in ++ others_in (of_files files.schema)
-others_of_files files = others_append built_in (of_files files.schema)
+pub others_of_files : (files : Files) → others_in (definitions files) ≡ others_in (built_in files.profile.floats) ++ others_in (of_files files.schema)
+others_of_files files = others_append (built_in files.profile.floats) (of_files files.schema)
 
 -- ---- what outlines count and give
 

@@ -7,6 +7,7 @@ use Rattle.gql_ast.specs.FileMaps.{with_file}
 use Rattle.gql_ast.specs.declared.definition.Document.{Document}
 use Rattle.gql_ast.specs.declared.definition.Tree.{Tree}
 use Rattle.gql_ast.specs.declared.files.Files.{Files}
+use Rattle.gql_ast.specs.declared.profile.Profile.{Profile}
 use Rattle.gql_ast.specs.declared.type_system.TypeDefinition.{TypeDefinition}
 use Rattle.gql_ast.specs.declared.type_system.TypeExtension.{TypeExtension}
 use Rattle.gql_built_in.specs.BuiltIn.{built_in}
@@ -59,15 +60,15 @@ same_definitions ds es once = each (first_definitions ds) ∙ all_first ds once
 
 -- files that an edit leaves, around the one that it puts or removes
 module _ (name : List ℕ) (files old : Files) (schema : Schema) (outlines : List (List ℕ × FileOutline)) (until middle past : List (List ℕ × Document)) (these : List (Sited TypeDefinition))
-    (is : schema ≡ schema_of old) (once : AreOnce (map defined_name (type_definitions (definitions old))))
+    (is : schema ≡ schema_of old) (same : old.profile ≡ files.profile) (once : AreOnce (map defined_name (type_definitions (definitions old))))
     (before : old.schema ≡ until ++ middle ++ past)
-    (after : type_definitions (definitions files) ≡ type_definitions built_in ++ (types_of_files_in until ++ these ++ types_of_files_in past))
+    (after : type_definitions (definitions files) ≡ type_definitions (built_in files.profile.floats) ++ (types_of_files_in until ++ these ++ types_of_files_in past))
     (first : files_until name outlines ≡ map outline_at until) (last : files_past name outlines ≡ map outline_at past) where
   abbrev start : List (Sited TypeDefinition)
-  start = type_definitions built_in ++ types_of_files_in until
+  start = type_definitions (built_in files.profile.floats) ++ types_of_files_in until
 
-  count_start : length (type_definitions built_in) + count_types (files_until name outlines) ≡ length start
-  count_start = ap (λ n. length (type_definitions built_in) + n) (ap count_types first ∙ counted_types until) ∙ sym (length-append (type_definitions built_in) (types_of_files_in until))
+  count_start : length (type_definitions (built_in files.profile.floats)) + count_types (files_until name outlines) ≡ length start
+  count_start = ap (λ n. length (type_definitions (built_in files.profile.floats)) + n) (ap count_types first ∙ counted_types until) ∙ sym (length-append (type_definitions (built_in files.profile.floats)) (types_of_files_in until))
 
   count_rest : count_types (files_past name outlines) ≡ length (types_of_files_in past)
   count_rest = ap count_types last ∙ counted_types past
@@ -76,12 +77,13 @@ module _ (name : List ℕ) (files old : Files) (schema : Schema) (outlines : Lis
   all_definitions =
       ap (λ s. map definition_of s.types) is ∙ same_definitions (type_definitions (definitions old)) (type_extensions (definitions old)) once
       ∙ types_of_files old
-      ∙ ap (λ xs. type_definitions built_in ++ xs) (ap types_of_files_in before ∙ file_types_append (until ++ middle) past
+      ∙ ap (λ (p : Profile). type_definitions (built_in p.floats) ++ type_definitions (of_files old.schema)) same
+      ∙ ap (λ xs. type_definitions (built_in files.profile.floats) ++ xs) (ap types_of_files_in before ∙ file_types_append (until ++ middle) past
       ∙ ap (λ xs. xs ++ types_of_files_in past) (file_types_append until middle))
-      ∙ sym (append_assoc (type_definitions built_in) (types_of_files_in until ++ types_of_files_in middle) (types_of_files_in past))
-      ∙ ap (λ xs. xs ++ types_of_files_in past) (sym (append_assoc (type_definitions built_in) (types_of_files_in until) (types_of_files_in middle)))
+      ∙ sym (append_assoc (type_definitions (built_in files.profile.floats)) (types_of_files_in until ++ types_of_files_in middle) (types_of_files_in past))
+      ∙ ap (λ xs. xs ++ types_of_files_in past) (sym (append_assoc (type_definitions (built_in files.profile.floats)) (types_of_files_in until) (types_of_files_in middle)))
 
-  pub placed_around : AreAround (length (type_definitions built_in)) name outlines schema.types
+  pub placed_around : AreAround (length (type_definitions (built_in files.profile.floats))) name outlines schema.types
   placed_around =
       let size : length (map definition_of schema.types) ≡ length schema.types = length-map schema.types definition_of in
       let fits = fits_around start (types_of_files_in middle) (types_of_files_in past) (map definition_of schema.types) all_definitions in record {
@@ -89,11 +91,11 @@ module _ (name : List ℕ) (files old : Files) (schema : Schema) (outlines : Lis
         within = omega (arith, fits, size, count_start, count_rest);
       }
 
-  pub placed_sites : type_definitions (definitions files) ≡ sites_in_place (length (type_definitions built_in)) name outlines (map definition_of schema.types) these
+  pub placed_sites : type_definitions (definitions files) ≡ sites_in_place (length (type_definitions (built_in files.profile.floats))) name outlines (map definition_of schema.types) these
   placed_sites =
       after
-      ∙ sym (append_assoc (type_definitions built_in) (types_of_files_in until ++ these) (types_of_files_in past))
-      ∙ ap (λ xs. xs ++ types_of_files_in past) (sym (append_assoc (type_definitions built_in) (types_of_files_in until) these))
+      ∙ sym (append_assoc (type_definitions (built_in files.profile.floats)) (types_of_files_in until ++ these) (types_of_files_in past))
+      ∙ ap (λ xs. xs ++ types_of_files_in past) (sym (append_assoc (type_definitions (built_in files.profile.floats)) (types_of_files_in until) these))
       ∙ sym (around start (types_of_files_in middle) (types_of_files_in past) these (map definition_of schema.types) all_definitions)
       ∙ ap₂ (λ u p. sites_around u p (map definition_of schema.types) these) (sym count_start) (sym count_rest)
 
@@ -106,39 +108,39 @@ outlines_after old files name document before outlines was is are =
 
 -- and they have the definitions of these that are not of types
 pub others_after : (files : Files) (outlines : List (List ℕ × FileOutline)) → outlines ≡ map outline_at files.schema
-    → others_in built_in ++ all_others outlines ≡ others_in (definitions files)
-others_after files outlines are = ap (λ xs. others_in built_in ++ xs) (ap all_others are ∙ outlined_others files.schema) ∙ sym (others_of_files files)
+    → others_in (built_in files.profile.floats) ++ all_others outlines ≡ others_in (definitions files)
+others_after files outlines are = ap (λ xs. others_in (built_in files.profile.floats) ++ xs) (ap all_others are ∙ outlined_others files.schema) ∙ sym (others_of_files files)
 
 -- the types of the files that an edit leaves stand around those of the file
 pub placed : (old files : Files) (name : List ℕ) (document : Option Document) (schema : Schema) (before after : Outline) → schema ≡ schema_of old → IsOutline old before
-    → files.schema ≡ edited_files old.schema name document → after.files ≡ map outline_at files.schema
+    → files.schema ≡ edited_files old.schema name document → old.profile ≡ files.profile → after.files ≡ map outline_at files.schema
     → IsTrue before.are_once → ArePlaced name document files before after schema
-placed old files name (Some document) schema before after is was edit are once =
+placed old files name (Some document) schema before after is was edit same are once =
     let now = with_file old.schema name document in
     let split = split_put name old.schema document in
     let found : after.files ≡ map outline_at now = are ∙ ap (map outline_at) edit in
     let first : files_until name after.files ≡ map outline_at (files_until name now) = ap (files_until name) found ∙ sym (outlined_until name now) in
     let last : files_past name after.files ≡ map outline_at (files_past name now) = ap (files_past name) found ∙ sym (outlined_past name now) in
     let types : type_definitions (definitions files)
-    ≡ type_definitions built_in ++ (types_of_files_in (files_until name now) ++ type_definitions (in_order_of document.definitions) ++ types_of_files_in (files_past name now))
-    = types_of_files files ∙ ap (λ xs. type_definitions built_in ++ xs)
+    ≡ type_definitions (built_in files.profile.floats) ++ (types_of_files_in (files_until name now) ++ type_definitions (in_order_of document.definitions) ++ types_of_files_in (files_past name now))
+    = types_of_files files ∙ ap (λ xs. type_definitions (built_in files.profile.floats) ++ xs)
     (ap types_of_files_in (edit ∙ split.2.1) ∙ file_types_append (files_until name now) ((split.2.0, document) ∷ files_past name now)
     ∙ ap (λ xs. types_of_files_in (files_until name now) ++ xs) (types_append (in_order_of document.definitions) (of_files (files_past name now)))
     ∙ sym (append_assoc (types_of_files_in (files_until name now)) (type_definitions (in_order_of document.definitions)) (types_of_files_in (files_past name now)))) in record {
-      around = placed_around name files old schema after.files (files_until name now) split.0 (files_past name now) (type_definitions (in_order_of document.definitions)) is (was.once once) split.1 types first last;
-      sites = placed_sites name files old schema after.files (files_until name now) split.0 (files_past name now) (type_definitions (in_order_of document.definitions)) is (was.once once) split.1 types first last;
+      around = placed_around name files old schema after.files (files_until name now) split.0 (files_past name now) (type_definitions (in_order_of document.definitions)) is same (was.once once) split.1 types first last;
+      sites = placed_sites name files old schema after.files (files_until name now) split.0 (files_past name now) (type_definitions (in_order_of document.definitions)) is same (was.once once) split.1 types first last;
     }
-placed old files name None schema before after is was edit are once =
+placed old files name None schema before after is was edit same are once =
     let split = split_removed name old.schema in
     let first : files_until name before.files ≡ map outline_at (files_until name old.schema) = ap (files_until name) was.files ∙ sym (outlined_until name old.schema) in
     let last : files_past name before.files ≡ map outline_at (files_past name old.schema) = ap (files_past name) was.files ∙ sym (outlined_past name old.schema) in
     let types : type_definitions (definitions files)
-    ≡ type_definitions built_in ++ (types_of_files_in (files_until name old.schema) ++ [] ++ types_of_files_in (files_past name old.schema))
-    = types_of_files files ∙ ap (λ xs. type_definitions built_in ++ xs)
+    ≡ type_definitions (built_in files.profile.floats) ++ (types_of_files_in (files_until name old.schema) ++ [] ++ types_of_files_in (files_past name old.schema))
+    = types_of_files files ∙ ap (λ xs. type_definitions (built_in files.profile.floats) ++ xs)
     (ap types_of_files_in (edit ∙ split.2) ∙ file_types_append (files_until name old.schema) (files_past name old.schema)
     ∙ ap (λ xs. xs ++ types_of_files_in (files_past name old.schema)) (sym (append-nil (types_of_files_in (files_until name old.schema))))) in record {
-      around = placed_around name files old schema before.files (files_until name old.schema) split.0 (files_past name old.schema) [] is (was.once once) split.1 types first last;
-      sites = placed_sites name files old schema before.files (files_until name old.schema) split.0 (files_past name old.schema) [] is (was.once once) split.1 types first last;
+      around = placed_around name files old schema before.files (files_until name old.schema) split.0 (files_past name old.schema) [] is same (was.once once) split.1 types first last;
+      sites = placed_sites name files old schema before.files (files_until name old.schema) split.0 (files_past name old.schema) [] is same (was.once once) split.1 types first last;
     }
 
 -- the types after an edit are those of the schema of the files

@@ -1,7 +1,7 @@
 -- The definitions of a schema (GraphQL specification, 3.1): the built-in ones, then those of the
 -- schema files, in the order of files and places. The first of each name counts, so that built-in
 -- ones count before any in a file.
-use Rattle.std.specs.Prelude.{ℕ, List, [], ◌∷◌, ◌++◌, Bool, not, map, flat_map, Option, Some, codes, bytes_eq, if◌then◌else◌}
+use Rattle.std.specs.Prelude.{ℕ, List, [], ◌∷◌, ◌++◌, Bool, true, not, map, flat_map, Option, Some, None, codes, bytes_eq, if◌then◌else◌}
 use Rattle.gql_ast.specs.declared.definition.Definition.{Definition}
 use Rattle.gql_ast.specs.declared.definition.Document.{Document}
 use Rattle.gql_ast.specs.declared.definition.Tree.{Tree}
@@ -27,18 +27,20 @@ in_order_of = map of_file
 abbrev pub of_files : List (List ℕ × Document) → List (Sited Tree)
 of_files files = flat_map (λ (f : List ℕ × Document). in_order_of f.1.definitions) files
 
--- all definitions of a schema
+-- all definitions of a schema; Float is among the built-in ones by the profile
 abbrev pub definitions : Files → List (Sited Tree)
-definitions files = built_in ++ of_files files.schema
+definitions files = built_in files.profile.floats ++ of_files files.schema
 
--- whether a type may have this name: Float is no type, even if a file defines it
-abbrev pub names_a_type : List ℕ → Bool
-names_a_type name = not (bytes_eq name (codes "Float"))
+-- whether a definition of this name, in this file, is that of a type. In a file that of Float is not:
+-- no file defines it, and where it is served it is built in.
+abbrev pub names_a_type : Option (List ℕ) → List ℕ → Bool
+names_a_type None name = true
+names_a_type (Some file) name = not (bytes_eq name (codes "Float"))
 
--- the definition, if it is that of a type other than Float
+-- the definition, if it is that of a type
 abbrev pub type_in : Option (List ℕ) → Tree → List (Sited TypeDefinition)
 type_in file (tree.Type definition) =
-    if names_a_type definition.name.text then record { file = file; node = definition } ∷ [] else []
+    if names_a_type file definition.name.text then record { file = file; node = definition } ∷ [] else []
 type_in file (tree.Operation operation) = []
 type_in file (tree.Fragment fragment) = []
 type_in file (tree.Schema definition) = []
@@ -87,7 +89,7 @@ schema_extension_in file (tree.Type definition) = []
 schema_extension_in file (tree.Directive definition) = []
 schema_extension_in file (tree.TypeExtension extension) = []
 
--- the definitions of types other than Float
+-- the definitions of types
 abbrev pub type_definitions : List (Sited Tree) → List (Sited TypeDefinition)
 type_definitions ds = flat_map (λ (d : Sited Tree). type_in d.file d.node) ds
 

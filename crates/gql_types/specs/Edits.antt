@@ -51,9 +51,9 @@ KeepsOthers names before after = KeepsTypes names before after.types
 -- the files with this schema file, in place of any of its name
 abbrev pub with_schema : Files → List ℕ → Document → Files
 with_schema files name document =
-    record { schema = with_file files.schema name document; documents = files.documents }
+    record files { schema = with_file files.schema name document }
 
 -- the files without the schema file of that name
 abbrev pub without_schema : Files → List ℕ → Files
 without_schema files name =
-    record { schema = without_file files.schema name; documents = files.documents }
+    record files { schema = without_file files.schema name }

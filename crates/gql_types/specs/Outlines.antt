@@ -54,11 +54,12 @@ module _ {T : Type 0} where
   edited_files files name None = without_file files name
 
 -- The schema and the outline are those of files before an edit that makes these files: it puts this
--- file under its name, or removes the file of that name if there is none to put.
+-- file under its name, or removes the file of that name if there is none to put. The profile stays.
 abbrev pub IsEditedFrom : List ℕ → Option Document → Files → Schema → Outline → Type 0
 IsEditedFrom name document after schema outline = (before : Files)
     × (schema ≡ schema_of before) × IsOutline before outline
     × (after.schema ≡ edited_files before.schema name document)
+    × (before.profile ≡ after.profile)
 
 -- how many types these files define
 abbrev pub count_types : List (List ℕ × FileOutline) → ℕ

@@ -42,10 +42,10 @@ others_around None before after = before.files
 -- file, and of the other files, which are those of the types before it.
 pub record ArePlaced (name : List ℕ) (document : Option Document) (files : Files)
     (before after : Outline) (schema : Schema) : Type 0 where
-  pub around : AreAround (length (type_definitions all_built_in)) name
+  pub around : AreAround (length (type_definitions (all_built_in files.profile.floats))) name
       (others_around document before after) schema.types
   pub sites : type_definitions (definitions files)
-      ≡ sites_in_place (length (type_definitions all_built_in)) name
+      ≡ sites_in_place (length (type_definitions (all_built_in files.profile.floats))) name
       (others_around document before after) (map definition_of schema.types) (types_in document)
 
 -- those of a file in the middle are replaced

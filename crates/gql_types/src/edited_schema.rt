@@ -100,7 +100,7 @@ fn types_of_all(
     files: &Files,
 ) -> Result<EditedTypes, AllocError>
     requires edited { AreEdited edit.now }
-    requires built_in { built_in.now ≡ all_built_in }
+    requires built_in { built_in.now ≡ all_built_in files.now.profile.floats }
     ensures types { IfOk result (AreTypesAfter edit.now
         (type_definitions (definitions files.now))) }
     ensures once { IfOk result (λ found. spec.HaveOwnNamePrints files.now
@@ -140,7 +140,7 @@ fn edited_types(
     after: &Outline,
 ) -> Result<EditedTypes, AllocError>
     requires edited { AreEdited edit.now }
-    requires built_in { built_in.now ≡ all_built_in }
+    requires built_in { built_in.now ≡ all_built_in files.now.profile.floats }
     requires placed { IsTrue before.now.are_once → ArePlaced name.now (option_copied document)
         files.now before.now after.now edit.now.schema.now }
     ensures types { IfOk result (AreTypesAfter edit.now
@@ -186,7 +186,7 @@ pub fn assemble_after_edit(
     ensures exact { IfOk result (λ after. after.places.items
         ≡ map (known_place edited.now before.now.types) after.schema.types) }
 {
-    let built_in = built_in_definitions(alloc)?;
+    let built_in = built_in_definitions(alloc, files.profile.floats)?;
     let built_in = built_in.as_slice();
     let file = outline_in(alloc, document)?;
     let after = outline.after_edit(alloc, name, file, false)?;

@@ -10,8 +10,8 @@ use gql_ast::{Definition, Document, FileName, Files, Items, Shared, Tree, TypeDe
 use gql_built_in::{Sited, SourceFile, name_of_source};
 use std::alloc::{AllocError, Global};
 
-/// The definitions of types other than Float, where they stand, and all definitions that are not of
-/// types.
+/// The definitions of types, where they stand, and all definitions that are not of types. That of
+/// Float in a file is neither.
 #[derive(Drop)]
 pub struct Gathered<'d> {
     pub types: Vec<TypeSite<'d>>,
@@ -20,14 +20,18 @@ pub struct Gathered<'d> {
     pub source: SourceFile,
 }
 
-fn names_a_type(name: &str) -> bool
-    ensures { result ≡ spec.names_a_type name.now }
+/// Whether a definition of this name, in this file, is that of a type: not that of Float in a file.
+fn names_a_type(file: Option<&FileName>, name: &str) -> bool
+    ensures { result ≡ spec.names_a_type (option_copied file.entry) name.now }
 {
-    name != "Float"
+    match file {
+        Some(_) => name != "Float",
+        None => true,
+    }
 }
 
 impl<'d> Gathered<'d> {
-    /// Adds the definition of a type, unless it is Float.
+    /// Adds the definition of a type, unless it is that of Float in a file.
     fn add_type(
         &mut self,
         file: Option<&'d FileName>,
@@ -37,7 +41,7 @@ impl<'d> Gathered<'d> {
             ++ spec.type_in (option_copied file.entry) (tree.Type node.now)) }
         ensures others { self.new.others ≡ self.old.others }
     {
-        if names_a_type(node.get().name.as_str()) {
+        if names_a_type(file, node.get().name.as_str()) {
             self.types.push(TypeSite { file, node })?;
         }
         Ok(())

@@ -9,8 +9,8 @@ use gql_ast::{Document, FileMap, FileName, Files, Items, Shared, Tree};
 use gql_built_in::{Sited, same_source};
 use std::alloc::{AllocError, Global};
 
-/// What a schema file gives to the schema: how many types it defines, Float left out, and its
-/// definitions that are not of types.
+/// What a schema file gives to the schema: how many types it defines, and its definitions that are
+/// not of types.
 #[derive(Drop)]
 pub struct FileOutline {
     pub types: usize,

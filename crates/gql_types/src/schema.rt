@@ -108,7 +108,7 @@ pub fn schema_with(
 pub fn assemble(alloc: Global, files: &Files) -> Result<Schema, AllocError>
     ensures { IfOk result (λ schema. schema ≡ spec.schema_of files.now) }
 {
-    let built_in = built_in_definitions(alloc)?;
+    let built_in = built_in_definitions(alloc, files.profile.floats)?;
     let definitions = gather(alloc, built_in.as_slice(), files)?;
     let types = types(alloc, &definitions)?;
     let schema = schema_with(alloc, types, definitions.others.as_slice())?;

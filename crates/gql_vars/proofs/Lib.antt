@@ -1,6 +1,7 @@
 pub mod LiteralUses
 pub mod Lookups
 pub mod SelectionUses
+pub mod OperationParts
 pub mod TypeFits
 pub mod TypeNames
 pub mod UsageParts

@@ -1,10 +1,11 @@
 -- Facts that agree on what a definition reads give it the same usages.
-use Rattle.std.specs.Prelude.{◌≡◌, ℕ, List, [], ◌∷◌, ◌++◌, flat_map, refl, bytes_eq, Option, Some, None, Contains}
+use Rattle.std.specs.Prelude.{◌≡◌, ℕ, List, [], ◌∷◌, ◌++◌, flat_map, refl, bytes_eq, is_some, Option, Some, None, Contains}
 use Rattle.std.specs.Option.{option_map_or}
 use Rattle.std.proofs.Common.{ap, sym, ◌∙◌, subst}
 use Rattle.std.proofs.lemmas.List.Elements.{Contains-append_left, Contains-append_right}
 use Rattle.gql_ast.specs.declared.literal.Argument.{Argument}
 use Rattle.gql_ast.specs.declared.literal.Directive.{Directive}
+use Rattle.gql_facts.specs.Floats.{float_read, is_open_in}
 use Rattle.gql_facts.specs.ListMembers.{Contains-nil, Contains-here, Contains-there, found_in}
 use Rattle.gql_facts.specs.Nodes.{Node, field, spread, inline, field_type}
 use Rattle.gql_facts.specs.OwnReads.{composite_reads, condition_reads, directive_reads, field_reads, node_reads, set_reads}
@@ -72,7 +73,7 @@ module _ (file : List ℕ) (u v : InputLookup) where
     same_usages (x.variable p name) at agree = refl
     same_usages (x.null p) at agree = refl
     same_usages (x.int p text) at agree = refl
-    same_usages (x.float p) at agree = refl
+    same_usages (x.float p text) at agree = refl
     same_usages (x.string p) at agree = refl
     same_usages (x.boolean p) at agree = refl
     same_usages (x.enum p name) at agree = refl
@@ -96,7 +97,7 @@ module _ (file : List ℕ) (u v : InputLookup) where
         ∙ ap (λ r. usages.by_field (λ at. value_usages v file at y) (field_named fields n.text) ++ r) (same_in_fields fs fields agree)
 
 module _ (P : Key → Type 0) (v u : Facts) (agree : (k : Key) → P k → u k ≡ v k)
-    (closed : (j k : Key) (t : List ℕ) → P j → Contains (types_in (v j)) t → Contains (type_reads t) k → P k) (file : List ℕ)
+    (closed : (j k : Key) (t : List ℕ) → P j → Contains (types_in (v j)) t → Contains (type_reads t) k → P k) (float : P float_read) (file : List ℕ)
   where
     -- u answers as v does to the keys of P, and P has what is asked of each type that an answer in it
     -- names
@@ -135,9 +136,10 @@ module _ (P : Key → Type 0) (v u : Facts) (agree : (k : Key) → P k → u k �
     -- what an input type is stays
     input_same : (t : List ℕ) → AsksInput t → known_inputs u t ≡ known_inputs v t
     input_same t asked =
-        ap (λ f. form_by t (kind_in f) (u (key.InputOf t)) (u (key.EnumOf t))) (agree (key.KindOf t) asked.0)
-        ∙ ap (λ f. form_by t (kind_of v t) f (u (key.EnumOf t))) (agree (key.InputOf t) asked.1.0)
-        ∙ ap (λ f. form_by t (kind_of v t) (v (key.InputOf t)) f) (agree (key.EnumOf t) asked.1.1)
+        ap (λ f. form_by (is_some (kind_in f)) t (kind_of u t) (u (key.InputOf t)) (u (key.EnumOf t))) (agree float_read float)
+        ∙ ap (λ f. form_by (is_open_in v) t (kind_in f) (u (key.InputOf t)) (u (key.EnumOf t))) (agree (key.KindOf t) asked.0)
+        ∙ ap (λ f. form_by (is_open_in v) t (kind_of v t) f (u (key.EnumOf t))) (agree (key.InputOf t) asked.1.0)
+        ∙ ap (λ f. form_by (is_open_in v) t (kind_of v t) (v (key.InputOf t)) f) (agree (key.EnumOf t) asked.1.1)
 
     -- each type that an input type leads to is asked
     led_to : (w : Written) (n : List ℕ) → AsksInput (name_in w) → LeadsTo (known_inputs v) w n → AsksInput n

@@ -195,18 +195,18 @@ module _ (facts : Facts) (d : Definition) (o : Operation) (members : List Fragme
   sound_types : (f : Fault) → Contains (flat_map (type_faults facts owner) vs) f → IsFaultOf facts d o f
   sound_types f h =
       let r = Contains-flat_map_from (type_faults facts owner) vs f h in
-      elim (Contains-append_cases (v26.faults facts owner r.0) (p04.faults owner r.0) f r.2) [
+      elim (Contains-append_cases (v26.faults facts owner r.0) (p04.faults facts owner r.0) f r.2) [
         | inl a ↦ by_v26 (Contains-flat_map (v26.faults facts owner) vs r.0 f r.1 a)
-        | inr b ↦ by_p04 (Contains-flat_map (p04.faults owner) vs r.0 f r.1 b)
+        | inr b ↦ by_p04 (Contains-flat_map (p04.faults facts owner) vs r.0 f r.1 b)
       ]
 
   complete26 : (f : Fault) → Contains (flat_map (v26.faults facts owner) vs) f → Contains (flat_map (type_faults facts owner) vs) f
   complete26 f h = let r = Contains-flat_map_from (v26.faults facts owner) vs f h in
-      Contains-flat_map (type_faults facts owner) vs r.0 f r.1 (Contains-append_left (v26.faults facts owner r.0) (p04.faults owner r.0) f r.2)
+      Contains-flat_map (type_faults facts owner) vs r.0 f r.1 (Contains-append_left (v26.faults facts owner r.0) (p04.faults facts owner r.0) f r.2)
 
-  complete04 : (f : Fault) → Contains (flat_map (p04.faults owner) vs) f → Contains (flat_map (type_faults facts owner) vs) f
-  complete04 f h = let r = Contains-flat_map_from (p04.faults owner) vs f h in
-      Contains-flat_map (type_faults facts owner) vs r.0 f r.1 (Contains-append_right (v26.faults facts owner r.0) (p04.faults owner r.0) f r.2)
+  complete04 : (f : Fault) → Contains (flat_map (p04.faults facts owner) vs) f → Contains (flat_map (type_faults facts owner) vs) f
+  complete04 f h = let r = Contains-flat_map_from (p04.faults facts owner) vs f h in
+      Contains-flat_map (type_faults facts owner) vs r.0 f r.1 (Contains-append_right (v26.faults facts owner r.0) (p04.faults facts owner r.0) f r.2)
 
   -- ---- all
 

@@ -29,7 +29,7 @@ uses_in d members = tree_uses d.file d.tree
 
 -- the faults of a variable by V26 and P04
 abbrev pub type_faults : Facts → FilePlace → VariableDefinition → List Fault
-type_faults facts owner v = v26.faults facts owner v ++ p04.faults owner v
+type_faults facts owner v = v26.faults facts owner v ++ p04.faults facts owner v
 
 -- the fault of a use by V27
 abbrev pub undefined : FilePlace → List VariableDefinition → Use → List Fault

@@ -72,7 +72,7 @@ abbrev mutual
       record { used = record { file = file; place = p; name = name }; location = at } ∷ []
   value_usages look file at (v.null p) = []
   value_usages look file at (v.int p text) = []
-  value_usages look file at (v.float p) = []
+  value_usages look file at (v.float p text) = []
   value_usages look file at (v.string p) = []
   value_usages look file at (v.boolean p) = []
   value_usages look file at (v.enum p name) = []

@@ -1,5 +1,5 @@
 -- V26, Variables Are Input Types: the type of a variable is unknown, or not an input type (GraphQL
--- 5.8.2). P04 reports Float.
+-- 5.8.2). P04 reports Float where it is unknown.
 -- Reported at the type's name, about the type.
 use Rattle.std.specs.Prelude.{List, [], ◌∷◌, Bool, true, false, ◌||◌, Option, Some, if◌then◌else◌}
 use Rattle.gql_ast.specs.declared.executable.VariableDefinition.{VariableDefinition}

@@ -1,6 +1,6 @@
 -- V29, All Variable Usages Are Allowed: a variable is used where its type does not fit (GraphQL
--- 5.8.5). Of variables of one name, the first counts. If the type of a variable is unknown or
--- Float, only V26 or P04 reports it.
+-- 5.8.5). Of variables of one name, the first counts. If the type of a variable is unknown, only V26
+-- or P04 reports it.
 -- Reported at the `$` of the use, about the variable, in each operation that reaches the use.
 use Rattle.std.specs.Prelude.{◌≡◌, Bool, true, false, ◌&&◌, ◌||◌, not, bytes_eq, is_some, Option, Some, None, if◌then◌else◌}
 use Rattle.gql_ast.specs.declared.definition.Definition.{Definition}
@@ -16,7 +16,6 @@ use Rattle.gql_rules.specs.Answers.{kind_of}
 use Rattle.gql_rules.specs.Literals.{is_null}
 use Rattle.gql_rules.specs.LocalFaults.{owner_of}
 use Rattle.gql_vars.specs.Faults.{fault_of_use}
-use Rattle.gql_vars.specs.P04FloatVariables.{is_float}
 use Rattle.gql_vars.specs.Usages.{Location, Usage, Usages}
 use Rattle.gql_vars.specs.Variables.{type_name, variable_named}
 pub use Rattle.gql_types.specs.Covariance.{nullable}
@@ -56,10 +55,9 @@ allows t has_value at = if is_never_null t has_value at
 abbrev pub is_allowed : VariableDefinition → Location → Bool
 is_allowed v at = allows (written v.of_type) (has_value v.default) at
 
--- V29 checks a variable if its type is known and is not Float
+-- V29 checks a variable if its type is known
 abbrev pub is_judged : Facts → VariableDefinition → Bool
-is_judged facts v =
-    not (is_float (type_name v).text) && is_some (kind_of facts (type_name v).text)
+is_judged facts v = is_some (kind_of facts (type_name v).text)
 
 -- the faults of an operation, which is the definition d
 pub data IsFault (facts : Facts) (d : Definition) (o : Operation) : Fault → Type 0 where

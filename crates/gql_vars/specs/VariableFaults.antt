@@ -21,7 +21,7 @@ pub data IsFaultOf (facts : Facts) (d : Definition) (o : Operation) : Fault → 
   by_v27 : {f : Fault} → v27.IsFault facts d o f → IsFaultOf facts d o f
   by_v28 : {f : Fault} → v28.IsFault facts d o f → IsFaultOf facts d o f
   by_v29 : {f : Fault} → v29.IsFault facts d o f → IsFaultOf facts d o f
-  by_p04 : {f : Fault} → Contains (flat_map (p04.faults (owner_of d)) o.variables) f
+  by_p04 : {f : Fault} → Contains (flat_map (p04.faults facts (owner_of d)) o.variables) f
       → IsFaultOf facts d o f
 
 -- the faults of a definition: those of an operation; another definition has none

@@ -32,7 +32,7 @@ fn check_types<W: World>(
 {
     for variable in variables {
         v26_variables_are_input_types::check(alloc, world, owner, variable, faults)?;
-        p04_float_variables::check(alloc, owner, variable, faults)?;
+        p04_float_variables::check(alloc, world, owner, variable, faults)?;
     }
     Ok(())
 }

@@ -1,4 +1,4 @@
-//! P04, Float Variables: a variable is of type Float, which this registry does not serve.
+//! P04, Float Variables: a variable is of type Float, and no type of the schema has that name.
 //! It is this registry's own rule.
 //!
 //! At fault: `query A($n: Float) { dog { barks(times: $n) } }`
@@ -7,8 +7,9 @@ ghost use Rattle.std.specs.Prelude.{◌≡◌, ◌++◌, OnOk};
 ghost use Rattle.gql_vars.specs.P04FloatVariables as spec;
 
 use gql_ast::{Fault, FilePlace, Rule, VariableDefinition};
+use gql_facts::World;
 use gql_faults::named_type;
-use gql_rules::add_fault_of;
+use gql_rules::{add_fault_of, kind_of};
 use std::alloc::{AllocError, Global};
 
 /// Whether this is the name of Float.
@@ -19,17 +20,21 @@ pub fn is_float(name: &str) -> bool
 }
 
 /// Adds the fault of a variable.
-pub fn check(
+pub fn check<W: World>(
     alloc: Global,
+    world: &mut W,
     owner: &FilePlace,
     variable: &VariableDefinition,
     faults: &mut Vec<Fault>,
 ) -> Result<(), AllocError>
-    ensures { OnOk result (faults.new.items ≡ faults.old.items
-        ++ spec.faults owner.now variable.now) }
+    ensures facts { W.facts world.new ≡ W.facts world.old }
+    ensures names { W.names world.new ≡ W.names world.old }
+    ensures lent { W.lent world.new ≡ W.lent world.old }
+    ensures found { OnOk result (faults.new.items ≡ faults.old.items
+        ++ spec.faults (W.facts world.old) owner.now variable.now) }
 {
     let name = named_type(&variable.of_type);
-    if is_float(name.as_str()) {
+    if is_float(name.as_str()) && kind_of(alloc, world, &name.text)?.is_none() {
         add_fault_of(alloc, owner, Rule::P04, name, faults)?;
     }
     Ok(())

@@ -2,7 +2,7 @@
 ghost use Rattle.std.specs.Prelude.{◌≡◌, IfOk, option_map};
 ghost use Rattle.std.specs.Option.{option_copied};
 ghost use Rattle.gql_facts.specs.Nodes as spec;
-ghost use Rattle.gql_facts.specs.OwnReads.{root_parent, selected_by};
+ghost use Rattle.gql_facts.specs.OwnReads.{root_parent};
 ghost use Rattle.gql_facts.specs.declared.fact.FieldFact.{FieldFact as AField};
 
 use gql_ast::{Name, OperationKind, Text};
@@ -69,16 +69,14 @@ pub fn parent_within<W: World>(
     }
 }
 
-/// The name of the type that an operation selects from, by the answer for its kind.
-fn selected_root(kind: OperationKind, root: &Fact) -> Option<&Text>
-    ensures { option_copied result ≡ selected_by kind root.now }
+/// The name of the type that an operation selects from, by the answer for the root operation type of
+/// its kind.
+fn selected_root(root: &Fact) -> Option<&Text>
+    ensures { option_copied result ≡ spec.root_in root.now }
 {
-    match kind {
-        OperationKind::Subscription => None,
-        OperationKind::Query | OperationKind::Mutation => match root {
-            Fact::Root(name) => Some(name.get()),
-            _ => None,
-        },
+    match root {
+        Fact::Root(name) => Some(name.get()),
+        _ => None,
     }
 }
 
@@ -94,5 +92,5 @@ pub fn parent_of_operation<W: World>(
     ensures parent { IfOk result (λ t. t ≡ root_parent (W.facts world.old) kind) }
 {
     let root = world.fact(alloc, &Key::RootOf(kind))?;
-    composite(alloc, world, selected_root(kind, &root))
+    composite(alloc, world, selected_root(&root))
 }

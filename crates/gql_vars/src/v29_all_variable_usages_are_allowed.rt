@@ -10,7 +10,6 @@ ghost use Rattle.gql_vars.specs.Misuses.{first_named, location_at, misuse_by, mi
 ghost use Rattle.gql_vars.specs.V29AllVariableUsagesAreAllowed as spec;
 
 use crate::faults::add_fault_of_use;
-use crate::p04_float_variables::is_float;
 use crate::type_fits::{fits, nullable};
 use crate::usage_check::{Location, UsageCheck};
 use crate::uses::VariableUse;
@@ -44,7 +43,7 @@ fn is_allowed(variable: &VariableDefinition, location: Location<'_>) -> bool
     }
 }
 
-/// Whether the type of a variable is known, and is not Float.
+/// Whether the type of a variable is known.
 fn is_judged<W: World>(
     alloc: Global,
     world: &mut W,
@@ -57,7 +56,7 @@ fn is_judged<W: World>(
 {
     let name = named_type(&variable.of_type);
     let kind = kind_of(alloc, world, &name.text)?;
-    Ok(!is_float(name.as_str()) && kind.is_some())
+    Ok(kind.is_some())
 }
 
 /// Adds the fault of a use of this variable, if it is defined.

@@ -35,12 +35,11 @@ touched_by name before after = touched.File
 -- the files with this document file in the place of any of its name
 abbrev pub with_document : Files → List ℕ → Document → Files
 with_document files name document =
-    record { schema = files.schema; documents = with_file files.documents name document }
+    record files { documents = with_file files.documents name document }
 
 -- the files without the document file of that name
 abbrev pub without_document : Files → List ℕ → Files
-without_document files name =
-    record { schema = files.schema; documents = without_file files.documents name }
+without_document files name = record files { documents = without_file files.documents name }
 
 -- The files before and after an edit give the same answer to every key that is not touched. Each
 -- definition after it that is not touched was there before, if each file has its own definitions.

@@ -20,5 +20,6 @@ pub mod V02OperationNameUniqueness
 pub mod V03LoneAnonymousOperation
 pub mod V11FragmentNameUniqueness
 pub mod V14FragmentsMustBeUsed
+pub mod V30SingleRootField
 pub mod Verdicts
 pub mod SharedWorks

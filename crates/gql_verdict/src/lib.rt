@@ -27,6 +27,7 @@ mod v02_operation_name_uniqueness;
 mod v03_lone_anonymous_operation;
 mod v11_fragment_name_uniqueness;
 mod v14_fragments_must_be_used;
+mod v30_single_root_field;
 mod verdict;
 
 pub use meter::Meter;

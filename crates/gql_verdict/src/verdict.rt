@@ -20,6 +20,7 @@ ghost use Rattle.gql_verdict.specs.Verdicts.{AreReadsOf, IsCertificate, Judges};
 use crate::meter::Meter;
 use crate::shared_work::SharedWork;
 use crate::sharing::{add_shared, share_into, shared_faults};
+use crate::v30_single_root_field::root_faults;
 use gql_ast::{Definition, Fault, Same, Shared};
 use gql_facts::{FragmentFact, Key, World};
 use gql_merge::{CleanFragments, merge_faults_with};
@@ -191,6 +192,8 @@ fn faults_in<W: World>(
     let mut faults = shared_faults(alloc, of_nodes)?;
     let of_variables = variable_faults(alloc, world, definition, members)?;
     share_into(alloc, of_variables, &mut faults)?;
+    let of_root = root_faults(alloc, world, definition, members)?;
+    share_into(alloc, of_root, &mut faults)?;
     let of_merging = merge_faults_with(alloc, world, definition, members, clean)?;
     let is_clean = are_none(of_merging.as_slice());
     add_shared(of_merging, &mut faults)?;

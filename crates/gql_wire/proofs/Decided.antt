@@ -348,8 +348,8 @@ of_head buf h whole =
     )
 
 -- bytes are a head, or are none
-pub some_outcome : (head : List ℕ) → (outcome : Outcome) × HasOutcome head outcome
-some_outcome head = elim (cuts BlankThen head blank_then) [
-  | inl w ↦ let found = head_of head w in (outcome_of (parts_of found.0), read found.1)
+pub some_outcome : {limit : ℕ} → (head : List ℕ) → (outcome : Outcome) × HasOutcome limit head outcome
+some_outcome {limit} head = elim (cuts BlankThen head blank_then) [
+  | inl w ↦ let found = head_of head w in (outcome_of limit (parts_of found.0), read found.1)
   | inr n ↦ (_, unread (λ h reads few. n (of_head head h (record { reads = reads; few = few }))))
 ]

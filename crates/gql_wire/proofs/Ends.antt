@@ -10,8 +10,8 @@ use Rattle.gql_wire.proofs.Exists.{request_some, split_some}
 use Rattle.gql_wire.proofs.Splitting.{one_split_lem, feeding_lem, rest_short, rest_unfinished}
 
 -- the requests of bytes from an offset on are complete within the first n bytes of the stream
-within_first : (n at : ℕ) (bytes : List ℕ) (rs : List Placed) (r : List ℕ)
-    → at + length bytes ≤ n → Splits at bytes rs r → All (EndsWithinFirst n) rs
+within_first : {limit : ℕ} → (n at : ℕ) (bytes : List ℕ) (rs : List Placed) (r : List ℕ)
+    → at + length bytes ≤ n → Splits limit at bytes rs r → All (EndsWithinFirst n) rs
 within_first n at bytes _ r h (unfinished u e) = All-nil (EndsWithinFirst n)
 within_first n at bytes _ _ h (last {front = f} m {r = x} g c e) =
     All-cons (EndsWithinFirst n) (record { request = x; end = at + length f }) []
@@ -21,13 +21,13 @@ within_first n at bytes _ r h (next {front = f} {more = m} {r = x} {rs = xs} g c
     All-cons (EndsWithinFirst n) (record { request = x; end = at + length f }) xs
     (omega arith) (within_first n (at + length f) m xs r (omega arith) s)
 
-pub ends_within_lem : (at : ℕ) (bytes : List ℕ) (rs : List Placed) (r : List ℕ)
-    → Splits at bytes rs r → All (EndsWithinFirst (at + length bytes)) rs
+pub ends_within_lem : {limit : ℕ} → (at : ℕ) (bytes : List ℕ) (rs : List Placed) (r : List ℕ)
+    → Splits limit at bytes rs r → All (EndsWithinFirst (at + length bytes)) rs
 ends_within_lem at bytes rs r s = within_first (at + length bytes) at bytes rs r (omega arith) s
 
 -- and after the first n of them, where the bytes begin there or later
-after_first : (n at : ℕ) (bytes : List ℕ) (rs : List Placed) (r : List ℕ)
-    → n ≤ at → Splits at bytes rs r → All (EndsAfterFirst n) rs
+after_first : {limit : ℕ} → (n at : ℕ) (bytes : List ℕ) (rs : List Placed) (r : List ℕ)
+    → n ≤ at → Splits limit at bytes rs r → All (EndsAfterFirst n) rs
 after_first n at bytes _ r h (unfinished u e) = All-nil (EndsAfterFirst n)
 after_first n at bytes _ _ h (last {front = f} m {r = x} g c e) =
     All-cons (EndsAfterFirst n) (record { request = x; end = at + length f }) []
@@ -37,7 +37,7 @@ after_first n at bytes _ r h (next {front = f} {more = m} {r = x} {rs = xs} g c 
     (omega (arith, request_some f x g)) (after_first n (at + length f) m xs r (omega arith) s)
 
 -- a request of unfinished bytes and further ones is longer than the unfinished bytes
-longer : (held more front rest : List ℕ) (r : Req) → IsUnfinished held → IsRequest front r
+longer : {limit : ℕ} → (held more front rest : List ℕ) (r : Req) → IsUnfinished limit held → IsRequest limit front r
     → front ++ rest ≡ held ++ more → length held < length front
 longer held more front rest r u g e = elim (leb_tells (length front) (length held)) [
   | inl w ↦
@@ -52,8 +52,8 @@ longer held more front rest r u g e = elim (leb_tells (length front) (length hel
 ]
 
 -- the requests of unfinished bytes and further ones are complete in the further ones
-after_held : (at n : ℕ) (held more : List ℕ) (rs : List Placed) (r : List ℕ) → IsUnfinished held
-    → n ≡ at + length held → Splits at (held ++ more) rs r → All (EndsAfterFirst n) rs
+after_held : {limit : ℕ} → (at n : ℕ) (held more : List ℕ) (rs : List Placed) (r : List ℕ) → IsUnfinished limit held
+    → n ≡ at + length held → Splits limit at (held ++ more) rs r → All (EndsAfterFirst n) rs
 after_held at n held more _ r u h (unfinished v e) = All-nil (EndsAfterFirst n)
 after_held at n held more _ _ u h (last {front = f} m {r = x} g c e) =
     All-cons (EndsAfterFirst n) (record { request = x; end = at + length f }) []
@@ -63,20 +63,20 @@ after_held at n held more _ r u h (next {front = f} {more = m} {r = x} {rs = xs}
     All-cons (EndsAfterFirst n) (record { request = x; end = at + length f }) xs
     (omega arith) (after_first n (at + length f) m xs r (omega arith) s)
 
-pub more_bytes_lem : (at : ℕ) (a b : List ℕ) (rs ps : List Placed) (r q : List ℕ)
-    → Splits at a rs r → StaysOpen rs → Splits at (a ++ b) ps q
+pub more_bytes_lem : {limit : ℕ} → (at : ℕ) (a b : List ℕ) (rs ps : List Placed) (r q : List ℕ)
+    → Splits limit at a rs r → StaysOpen rs → Splits limit at (a ++ b) ps q
     → (qs : List Placed) × (ps ≡ rs ++ qs)
-    × Splits (at + (length a - length r)) (r ++ b) qs q
+    × Splits limit (at + (length a - length r)) (r ++ b) qs q
     × All (EndsWithinFirst (at + length a)) rs × All (EndsAfterFirst (at + length a)) qs
-more_bytes_lem at a b rs ps r q s stays t =
+more_bytes_lem {limit} at a b rs ps r q s stays t =
     let from : ℕ = at + (length a - length r) in
     let (qs, q2, split) = split_some from (r ++ b) in
-    let whole : Splits at (a ++ b) (rs ++ qs) q2 = feeding_lem at a b rs qs r q2 s stays split in
+    let whole : Splits limit at (a ++ b) (rs ++ qs) q2 = feeding_lem at a b rs qs r q2 s stays split in
     let one = one_split_lem at (a ++ b) ps (rs ++ qs) q q2 t whole in
     let place : at + length a ≡ from + length r = omega (arith, rest_short at a rs r s) in (
       qs,
       one.0,
-      subst (λ (z : List ℕ). Splits from (r ++ b) qs z) (sym one.1) split,
+      subst (λ (z : List ℕ). Splits limit from (r ++ b) qs z) (sym one.1) split,
       ends_within_lem at a rs r s,
       after_held from (at + length a) r b qs q2 (rest_unfinished at a rs r s).0 place split,
     )

@@ -12,8 +12,8 @@ use Rattle.gql_wire.proofs.Unique.{open_unfinished, body_unfinished}
 use Rattle.gql_wire.proofs.Splitting.{blank_unfinished}
 
 -- the bytes begin with a request
-abbrev Begun : List ℕ → Type 0
-Begun bytes = (front : List ℕ) × (more : List ℕ) × (r : Req) × IsRequest front r × (front ++ more ≡ bytes)
+abbrev Begun : ℕ → List ℕ → Type 0
+Begun limit bytes = (front : List ℕ) × (more : List ℕ) × (r : Req) × IsRequest limit front r × (front ++ more ≡ bytes)
 
 abbrev ends_at : List ℕ → ℕ → Bool
 ends_at bytes k = ends_with nat_eq (take k bytes) head_end
@@ -55,13 +55,13 @@ head_at bytes k begun within short ended before = record {
 }
 
 -- a head and its outcome
-begun_by_head : (bytes : List ℕ) (k : ℕ) → k ≤ length bytes → IsHead (take k bytes) → (outcome : Outcome) → HasOutcome (take k bytes) outcome → Begun bytes ⊎ IsUnfinished bytes
+begun_by_head : {limit : ℕ} → (bytes : List ℕ) (k : ℕ) → k ≤ length bytes → IsHead (take k bytes) → (outcome : Outcome) → HasOutcome limit (take k bytes) outcome → Begun limit bytes ⊎ IsUnfinished limit bytes
 begun_by_head bytes k within head (refuse refusal bodiless) outcome_is = inl (take k bytes, drop k bytes, refused refusal bodiless, stops head outcome_is, take-append-drop k bytes)
-begun_by_head bytes k within head (expects method target n closing) outcome_is = elim (leb_tells (k + n) (length bytes)) [
+begun_by_head {limit} bytes k within head (expects method target n closing) outcome_is = elim (leb_tells (k + n) (length bytes)) [
   | inl w ↦
       let body : List ℕ = take n (drop k bytes) in
       let len : length body ≡ n = omega (arith, w.1, length-take n (drop k bytes), length-drop k bytes) in
-      let outcome_is' : HasOutcome (take k bytes) (expects method target (length body) closing) = subst (λ (m : ℕ). HasOutcome (take k bytes) (expects method target m closing)) (sym len) outcome_is in
+      let outcome_is' : HasOutcome limit (take k bytes) (expects method target (length body) closing) = subst (λ (m : ℕ). HasOutcome limit (take k bytes) (expects method target m closing)) (sym len) outcome_is in
       inl (
         take k bytes ++ body,
         drop n (drop k bytes),
@@ -73,7 +73,7 @@ begun_by_head bytes k within head (expects method target n closing) outcome_is =
 ]
 
 -- bytes that begin with no CR LF
-begun_at : (bytes : List ℕ) → begins_blank bytes ≡ false → Begun bytes ⊎ IsUnfinished bytes
+begun_at : {limit : ℕ} → (bytes : List ℕ) → begins_blank bytes ≡ false → Begun limit bytes ⊎ IsUnfinished limit bytes
 begun_at bytes f = elim (leb_tells head_limit (length bytes)) [
   | inl w ↦ elim (first_end bytes head_limit) [
     | inl found ↦ let head = head_at bytes found.0 f (omega (arith, found.1, w.1)) found.1 found.2 found.3 in let outcome = some_outcome (take found.0 bytes) in
@@ -92,11 +92,11 @@ begun_at bytes f = elim (leb_tells head_limit (length bytes)) [
   ]
 ]
 
-blank_begun : (bytes : List ℕ) → Begun bytes ⊎ IsUnfinished bytes → Begun (13 ∷ 10 ∷ bytes) ⊎ IsUnfinished (13 ∷ 10 ∷ bytes)
+blank_begun : {limit : ℕ} → (bytes : List ℕ) → Begun limit bytes ⊎ IsUnfinished limit bytes → Begun limit (13 ∷ 10 ∷ bytes) ⊎ IsUnfinished limit (13 ∷ 10 ∷ bytes)
 blank_begun bytes (inl (front, more, r, g, e)) = inl (13 ∷ 10 ∷ front, more, r, behind_blank g, ap (λ (z : List ℕ). 13 ∷ 10 ∷ z) e)
 blank_begun bytes (inr u) = inr (blank_unfinished bytes u)
 
-begun : (bytes : List ℕ) → Begun bytes ⊎ IsUnfinished bytes
+begun : {limit : ℕ} → (bytes : List ℕ) → Begun limit bytes ⊎ IsUnfinished limit bytes
 begun [] = begun_at [] refl
 begun (a ∷ []) = begun_at (a ∷ []) refl
 begun (a ∷ b ∷ bytes) = elim (true_or_false (a == 13 && b == 10)) [
@@ -106,18 +106,18 @@ begun (a ∷ b ∷ bytes) = elim (true_or_false (a == 13 && b == 10)) [
   | inr f ↦ begun_at (a ∷ b ∷ bytes) f
 ]
 
-pub request_some : (front : List ℕ) (r : Req) → IsRequest front r → 0 < length front
+pub request_some : {limit : ℕ} → (front : List ℕ) (r : Req) → IsRequest limit front r → 0 < length front
 request_some _ r (behind_blank {bytes = a} g) = omega arith
 request_some front r (long o n) = omega arith
 request_some front r (stops h s) = omega (arith, head_full front h)
 request_some _ r (whole {head = h} {body = b} ih s) = omega (arith, head_full h ih, length-append h b)
 
-split_within : (room at : ℕ) (bytes : List ℕ) → length bytes ≤ room → (rs : List Placed) × (rest : List ℕ) × Splits at bytes rs rest
-split_within zero at bytes h = elim (begun bytes) [
+split_within : {limit : ℕ} → (room at : ℕ) (bytes : List ℕ) → length bytes ≤ room → (rs : List Placed) × (rest : List ℕ) × Splits limit at bytes rs rest
+split_within {limit} zero at bytes h = elim (begun {limit = limit} bytes) [
   | inl w ↦ absurd (omega (arith, request_some w.0 w.2 w.3, ap length w.4, length-append w.0 w.1))
   | inr u ↦ ([], skip_blank bytes, unfinished u refl)
 ]
-split_within (suc room) at bytes h = elim (begun bytes) [
+split_within {limit} (suc room) at bytes h = elim (begun {limit = limit} bytes) [
   | inl w ↦ elim (true_or_false (closes w.2)) [
     | inl t ↦ (_, [], last w.1 w.3 t w.4)
     | inr f ↦ let after = split_within room (at + length w.0) w.1 (omega (arith, request_some w.0 w.2 w.3, ap length w.4, length-append w.0 w.1)) in
@@ -126,5 +126,5 @@ split_within (suc room) at bytes h = elim (begun bytes) [
   | inr u ↦ ([], skip_blank bytes, unfinished u refl)
 ]
 
-pub split_some : (at : ℕ) (bytes : List ℕ) → (rs : List Placed) × (rest : List ℕ) × Splits at bytes rs rest
+pub split_some : {limit : ℕ} → (at : ℕ) (bytes : List ℕ) → (rs : List Placed) × (rest : List ℕ) × Splits limit at bytes rs rest
 split_some at bytes = split_within (length bytes) at bytes (omega arith)

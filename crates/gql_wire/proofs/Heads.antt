@@ -25,11 +25,11 @@ parts_same : {m n t u : List ℕ} {v w : ℕ} {f g : List (List ℕ × List ℕ)
 parts_same {m} {n} {t} {u} {v} {w} {f} {g} a b c d = cc
 
 -- a whole head has the outcome of its parts
-pub whole_outcome : (buf : List ℕ) (headers : List HeaderSpan) (spans : RequestSpans) → IsWholeHead buf headers spans → length headers ≤ 32
-    → HasOutcome buf (outcome_of (parts_at buf (take spans.headers headers) spans))
-whole_outcome buf headers spans (h, at, whole) few =
+pub whole_outcome : {limit : ℕ} → (buf : List ℕ) (headers : List HeaderSpan) (spans : RequestSpans) → IsWholeHead buf headers spans → length headers ≤ 32
+    → HasOutcome limit buf (outcome_of limit (parts_at buf (take spans.headers headers) spans))
+whole_outcome {limit} buf headers spans (h, at, whole) few =
     let same : parts_of h ≡ parts_at buf (take spans.headers headers) spans = parts_same (sym at.method) (sym at.path) (sym at.version) (sym at.fields) in
-    subst (λ (p : Parts). HasOutcome buf (outcome_of p)) same (read (is_read buf headers spans h at whole few))
+    subst (λ (p : Parts). HasOutcome limit buf (outcome_of limit p)) same (read (is_read buf headers spans h at whole few))
 
 -- where httparse finds no whole head, there is none
 pub no_head : (buf : List ℕ) (headers : List HeaderSpan) (room : ℕ) (r : Result (Status RequestSpans) Error) → FindsRequest buf room headers r

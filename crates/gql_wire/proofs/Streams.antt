@@ -84,24 +84,24 @@ only_blank n (a ∷ b ∷ c ∷ cs) g e = elim (leb_tells 2 n) [
   | inr w ↦ absurd (g.line 1 (omega (arith, w.1)) (omega arith) (eqb-true b 10 (both (a == 13) (b == 10) e).1))
 ]
 
-pub done : (bs : List ℕ) (p : Pending) → p.head ≡ length bs → p.length ≡ 0 → IsHead bs → HasOutcome bs (expects (span_bytes bs p.method) (span_bytes bs p.target) p.length p.closing)
-    → AreWithin p → IsBodyDone bs p
+pub done : {limit : ℕ} → (bs : List ℕ) (p : Pending) → p.head ≡ length bs → p.length ≡ 0 → IsHead bs → HasOutcome limit bs (expects (span_bytes bs p.method) (span_bytes bs p.target) p.length p.closing)
+    → AreWithin limit p → IsBodyDone limit bs p
 done bs p n none h s w =
     let e : take p.head bs ≡ bs = take_all p.head bs (omega arith) in
     record { head = rw e h; outcome_is = rw e s; spans = w; filled = omega arith }
 
-pub body_open : (bs : List ℕ) (p : Pending) → p.head ≡ length bs → p.length ≢ 0 → IsHead bs → HasOutcome bs (expects (span_bytes bs p.method) (span_bytes bs p.target) p.length p.closing)
-    → AreWithin p → IsBodyOpen bs p
+pub body_open : {limit : ℕ} → (bs : List ℕ) (p : Pending) → p.head ≡ length bs → p.length ≢ 0 → IsHead bs → HasOutcome limit bs (expects (span_bytes bs p.method) (span_bytes bs p.target) p.length p.closing)
+    → AreWithin limit p → IsBodyOpen limit bs p
 body_open bs p n some h s w =
     let e : take p.head bs ≡ bs = take_all p.head bs (omega arith) in
     record { within = omega arith; head = rw e h; outcome_is = rw e s; spans = w; unfilled = omega arith }
 
-pub done_request : (bs m t b : List ℕ) (p : Pending) → IsBodyDone bs p → m ≡ span_bytes (take p.head bs) p.method → t ≡ span_bytes (take p.head bs) p.target → b ≡ drop p.head bs
-    → IsRequest bs (request m t b p.closing)
-done_request bs m t b p d em et eb =
+pub done_request : {limit : ℕ} → (bs m t b : List ℕ) (p : Pending) → IsBodyDone limit bs p → m ≡ span_bytes (take p.head bs) p.method → t ≡ span_bytes (take p.head bs) p.target → b ≡ drop p.head bs
+    → IsRequest limit bs (request m t b p.closing)
+done_request {limit} bs m t b p d em et eb =
     let n : p.length ≡ length (drop p.head bs) = omega (arith, d.filled, length-drop p.head bs) in
     let outcome_is = rw n at d.outcome_is in
-    rw (em, et, eb) (subst (λ (xs : List ℕ). IsRequest xs (request (span_bytes (take p.head bs) p.method) (span_bytes (take p.head bs) p.target) (drop p.head bs) p.closing)) (take-append-drop p.head bs) (whole d.head outcome_is))
+    rw (em, et, eb) (subst (λ (xs : List ℕ). IsRequest limit xs (request (span_bytes (take p.head bs) p.method) (span_bytes (take p.head bs) p.target) (drop p.head bs) p.closing)) (take-append-drop p.head bs) (whole d.head outcome_is))
 
 pub skip_append : (xs ys : List ℕ) → skip_blank (skip_blank xs ++ ys) ≡ skip_blank (xs ++ ys)
 skip_append [] ys = refl
@@ -111,7 +111,7 @@ skip_append (a ∷ b ∷ xs) ys = elim (true_or_false (a == 13 && b == 10)) [
   | inr e ↦ rw e (rw e refl)
 ]
 
-pub request_after_blanks : (xs ys : List ℕ) (r : Req) → IsRequest (skip_blank xs ++ ys) r → IsRequest (xs ++ ys) r
+pub request_after_blanks : {limit : ℕ} → (xs ys : List ℕ) (r : Req) → IsRequest limit (skip_blank xs ++ ys) r → IsRequest limit (xs ++ ys) r
 request_after_blanks [] ys r h = h
 request_after_blanks (a ∷ []) ys r h = h
 request_after_blanks (a ∷ b ∷ xs) ys r h = elim (true_or_false (a == 13 && b == 10)) [
@@ -121,9 +121,9 @@ request_after_blanks (a ∷ b ∷ xs) ys r h = elim (true_or_false (a == 13 && b
   | inr e ↦ rw e at h
 ]
 
-pub held_skips : (bs : List ℕ) (p : Option Pending) → IsHeld bs p → skip_blank bs ≡ bs
-held_skips bs None h = skip_same bs h.0.begun
-held_skips bs (Some p) h = skip_same bs (begun_on p.head bs (omega (arith, head_full (take p.head bs) h.head, length-take p.head bs)) h.head.begun)
+pub held_skips : (limit : ℕ) → (bs : List ℕ) (p : Option Pending) → IsHeld limit bs p → skip_blank bs ≡ bs
+held_skips limit bs None h = skip_same bs h.0.begun
+held_skips limit bs (Some p) h = skip_same bs (begun_on p.head bs (omega (arith, head_full (take p.head bs) h.head, length-take p.head bs)) h.head.begun)
 
 -- more bytes of a piece, after skipped ones
 pub more_skipped : (old now new piece : List ℕ) (i n : ℕ) → now ≡ skip_blank (old ++ take i piece) → new ≡ skip_blank (now ++ take n (drop i piece))
@@ -132,10 +132,10 @@ more_skipped old now new piece i n e f =
     f ∙ ap (λ (xs : List ℕ). skip_blank (xs ++ take n (drop i piece))) e ∙ skip_append (old ++ take i piece) (take n (drop i piece))
     ∙ ap skip_blank (append_assoc old (take i piece) (take n (drop i piece)) ∙ ap (λ (xs : List ℕ). old ++ xs) (sym (take-add i n piece)))
 
-pub more_requested : (old now piece : List ℕ) (i n : ℕ) (r : Req) → now ≡ skip_blank (old ++ take i piece) → IsRequest (now ++ take n (drop i piece)) r
-    → IsRequest (old ++ take (i + n) piece) r
-more_requested old now piece i n r e f =
-    let g : IsRequest ((old ++ take i piece) ++ take n (drop i piece)) r = request_after_blanks (old ++ take i piece) (take n (drop i piece)) r (rw e at f) in
+pub more_requested : {limit : ℕ} → (old now piece : List ℕ) (i n : ℕ) (r : Req) → now ≡ skip_blank (old ++ take i piece) → IsRequest limit (now ++ take n (drop i piece)) r
+    → IsRequest limit (old ++ take (i + n) piece) r
+more_requested {limit} old now piece i n r e f =
+    let g : IsRequest limit ((old ++ take i piece) ++ take n (drop i piece)) r = request_after_blanks (old ++ take i piece) (take n (drop i piece)) r (rw e at f) in
     let same : (old ++ take i piece) ++ take n (drop i piece) ≡ old ++ take (i + n) piece =
     append_assoc old (take i piece) (take n (drop i piece)) ∙ ap (λ (xs : List ℕ). old ++ xs) (sym (take-add i n piece)) in
     rw same at g

@@ -14,11 +14,11 @@ use Rattle.gql_wire.specs.Stream.{IsUnfinished, Req, request, IsRequest, behind_
 use Rattle.gql_wire.specs.declared.head.HeadRefusal.{HeadRefusal}
 use Rattle.gql_wire.specs.declared.stream.Pending.{Pending}
 
-pub outcome_unique : {head : List ℕ} {s t : Outcome} → HasOutcome head s → HasOutcome head t → s ≡ t
+pub outcome_unique : {limit : ℕ} → {head : List ℕ} {s t : Outcome} → HasOutcome limit head s → HasOutcome limit head t → s ≡ t
 outcome_unique (unread n) (unread m) = refl
 outcome_unique (unread n) (read {h = h} r) = absurd (n h r.reads r.few)
 outcome_unique (read {h = h} r) (unread n) = absurd (n h r.reads r.few)
-outcome_unique (read {head} {h = h} r) (read {h = k} q) = ap (λ (g : RequestHead). outcome_of (parts_of g)) (request_unique head h k [] [] r.reads q.reads).0
+outcome_unique {limit} (read {head} {h = h} r) (read {h = k} q) = ap (λ (g : RequestHead). outcome_of limit (parts_of g)) (request_unique head h k [] [] r.reads q.reads).0
 
 prefix_of : (a b x y : List ℕ) → a ++ x ≡ b ++ y → length a ≤ length b → take (length a) b ≡ a
 prefix_of a b x y e h = sym (take-append-le (length a) b y h) ∙ ap (λ (s : List ℕ). take (length a) s) (sym e) ∙ take-append_seam a x
@@ -67,13 +67,13 @@ whole_same h b c x y m n t u v w e f =
 pub cut_left : (h b c : List ℕ) → h ++ b ≡ h ++ c → b ≡ c
 cut_left h b c e = sym (drop-append_seam h b) ∙ ap (λ (z : List ℕ). drop (length h) z) e ∙ drop-append_seam h c
 
-refused_whole : (h k b x y : List ℕ) (f : HeadRefusal) (fb : Bool) (m t : List ℕ) (v : Bool) → IsHead h → IsHead k → HasOutcome h (refuse f fb) → HasOutcome k (expects m t (length b) v)
+refused_whole : {limit : ℕ} → (h k b x y : List ℕ) (f : HeadRefusal) (fb : Bool) (m t : List ℕ) (v : Bool) → IsHead h → IsHead k → HasOutcome limit h (refuse f fb) → HasOutcome limit k (expects m t (length b) v)
     → h ++ x ≡ (k ++ b) ++ y → ⊥
 refused_whole h k b x y f fb m t v ih ik s w e =
     let same : h ≡ k = one_head h k x (b ++ y) ih ik (e ∙ append_assoc k b y) in
     let clash : refuse f fb ≡ expects m t (length b) v = outcome_unique (rw same at s) w in absurd (let r : zero ≡ suc zero = cc in omega arith)
 
-pub one_reading_lem : (a b x y : List ℕ) (r q : Req) → IsRequest a r → IsRequest b q → a ++ x ≡ b ++ y → (a ≡ b) × (r ≡ q)
+pub one_reading_lem : {limit : ℕ} → (a b x y : List ℕ) (r q : Req) → IsRequest limit a r → IsRequest limit b q → a ++ x ≡ b ++ y → (a ≡ b) × (r ≡ q)
 one_reading_lem _ _ x y r q (behind_blank {bytes = a} g) (behind_blank {bytes = b} h) e =
     let rest = one_reading_lem a b x y r q g h (ap (λ (z : List ℕ). drop 2 z) e) in (ap (λ (z : List ℕ). 13 ∷ 10 ∷ z) rest.0, rest.1)
 one_reading_lem _ b x y r q (behind_blank {bytes = a} g) (long o n) e = absurd (not_blank b a y x o.begun (omega arith) (sym e))
@@ -109,7 +109,7 @@ open_head bytes head more o h e =
     let bad : true ≡ false = sym h.ended ∙ f in absurd (let r : zero ≡ suc zero = cc in omega arith)
 
 -- no front of what is held is a request
-pub open_unfinished : (bytes front more : List ℕ) (r : Req) → IsOpen bytes → length bytes < head_limit → IsRequest front r → front ++ more ≡ bytes → ⊥
+pub open_unfinished : {limit : ℕ} → (bytes front more : List ℕ) (r : Req) → IsOpen bytes → length bytes < head_limit → IsRequest limit front r → front ++ more ≡ bytes → ⊥
 open_unfinished bytes _ more r o less (behind_blank {bytes = a} g) e =
     not_blank bytes a [] more o.begun (omega (arith, ap length e, length-append (13 ∷ 10 ∷ a) more)) (append-nil bytes ∙ sym e)
 open_unfinished bytes front more r o less (long p n) e = absurd (omega (arith, ap length e, length-append front more))
@@ -117,8 +117,8 @@ open_unfinished bytes front more r o less (stops h s) e = open_head bytes front 
 open_unfinished bytes _ more r o less (whole {head = h} {body = b} ih s) e = open_head bytes h (b ++ more) o ih (sym (append_assoc h b more) ∙ e)
 
 -- nor of a head with a part of its body
-pub body_unfinished : (bytes front more : List ℕ) (r : Req) (k n : ℕ) (method target : List ℕ) (closing : Bool) → k ≤ length bytes → IsHead (take k bytes)
-    → HasOutcome (take k bytes) (expects method target n closing) → length bytes < k + n → IsRequest front r → front ++ more ≡ bytes → ⊥
+pub body_unfinished : {limit : ℕ} → (bytes front more : List ℕ) (r : Req) (k n : ℕ) (method target : List ℕ) (closing : Bool) → k ≤ length bytes → IsHead (take k bytes)
+    → HasOutcome limit (take k bytes) (expects method target n closing) → length bytes < k + n → IsRequest limit front r → front ++ more ≡ bytes → ⊥
 body_unfinished bytes _ more r k n m t c within head outcome_is less (behind_blank {bytes = a} g) e =
     not_blank (take k bytes) a (drop k bytes) more head.begun (omega (arith, head_full (take k bytes) head)) (take-append-drop k bytes ∙ sym e)
 body_unfinished bytes front more r k n m t c within head outcome_is less (long q l) e = not_long front (take k bytes) more (drop k bytes) q l head (e ∙ sym (take-append-drop k bytes))
@@ -131,12 +131,12 @@ body_unfinished bytes _ more r k n m t c within head outcome_is less (whole {hea
     let len : length b ≡ n = cc in
     absurd (omega (arith, len, less, within, ap length e, ap length same, length-append (h ++ b) more, length-append h b, length-take k bytes))
 
-pub held_unfinished : (bytes : List ℕ) (p : Option Pending) → IsHeld bytes p → IsUnfinished bytes
+pub held_unfinished : {limit : ℕ} → (bytes : List ℕ) (p : Option Pending) → IsHeld limit bytes p → IsUnfinished limit bytes
 held_unfinished bytes None h front more r g e = open_unfinished bytes front more r h.0 h.1 g e
 held_unfinished bytes (Some p) h front more r g e = body_unfinished bytes front more r p.head p.length _ _ p.closing h.within h.head h.outcome_is h.unfilled g e
 
 -- the empty list of bytes is unfinished
-pub nothing_unfinished : IsUnfinished []
+pub nothing_unfinished : {limit : ℕ} → IsUnfinished limit []
 nothing_unfinished _ more r (behind_blank {bytes = a} g) e = absurd (omega (arith, ap length e, length-append (13 ∷ 10 ∷ a) more))
 nothing_unfinished front more r (long p n) e = absurd (omega (arith, ap length e, length-append front more))
 nothing_unfinished front more r (stops h s) e = absurd (omega (arith, head_full front h, ap length e, length-append front more))

@@ -96,23 +96,27 @@ closes_after p = p.minor == 0 || list_any names_close (values_of (codes "connect
 abbrev pub is_head : List ℕ → Bool
 is_head method = bytes_eq method (codes "HEAD")
 
--- the most bytes of a body
+-- the most bytes of a body, unless another limit is given
 abbrev pub body_limit : ℕ
 body_limit = 262144
 
--- the outcome of a head without Transfer-Encoding, by its body length
-abbrev pub with_length : Parts → Option ℕ → Outcome
-with_length p None = refuse BadLength (is_head p.method)
-with_length p (Some n) =
-    if nat_le n body_limit then expects p.method p.target n (closes_after p)
+-- the greatest limit of bodies that may be given
+abbrev pub greatest_body_limit : ℕ
+greatest_body_limit = 67108864
+
+-- the outcome of a head without Transfer-Encoding, by its body length and the limit of bodies
+abbrev pub with_length : ℕ → Parts → Option ℕ → Outcome
+with_length limit p None = refuse BadLength (is_head p.method)
+with_length limit p (Some n) =
+    if nat_le n limit then expects p.method p.target n (closes_after p)
     else refuse LongBody (is_head p.method)
 
--- the outcome of a head with these parts
-abbrev pub outcome_of : Parts → Outcome
-outcome_of p =
+-- the outcome of a head with these parts, by the limit of bodies
+abbrev pub outcome_of : ℕ → Parts → Outcome
+outcome_of limit p =
     if list_any (is_named (codes "transfer-encoding")) p.fields
     then refuse TransferCoding (is_head p.method)
-    else with_length p (content_length (values_of (codes "content-length") p.fields))
+    else with_length limit p (content_length (values_of (codes "content-length") p.fields))
 
 -- the bytes are this head and nothing more, and it has at most 32 fields
 pub record IsRead (head : List ℕ) (h : RequestHead) : Type 0 where
@@ -123,8 +127,8 @@ pub record IsRead (head : List ℕ) (h : RequestHead) : Type 0 where
 abbrev pub IsNoHead : ℕ → List ℕ → Type 0
 IsNoHead room head = (h : RequestHead) → ReadsRequest head h [] → length h.fields ≤ room → ⊥
 
--- these bytes, as a head, have this outcome
-pub data HasOutcome : List ℕ → Outcome → Type 0 where
-  unread : {head : List ℕ} → IsNoHead 32 head → HasOutcome head (refuse BadHead false)
+-- these bytes, as a head, have this outcome, by the limit of bodies
+pub data HasOutcome (limit : ℕ) : List ℕ → Outcome → Type 0 where
+  unread : {head : List ℕ} → IsNoHead 32 head → HasOutcome limit head (refuse BadHead false)
   read : {head : List ℕ} {h : RequestHead} → IsRead head h
-      → HasOutcome head (outcome_of (parts_of h))
+      → HasOutcome limit head (outcome_of limit (parts_of h))

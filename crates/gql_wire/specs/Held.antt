@@ -6,7 +6,7 @@ use Rattle.httparse.specs.Grammar.{RequestHead}
 use Rattle.httparse.specs.declared.spans.HeaderSpan.{HeaderSpan}
 use Rattle.httparse.specs.declared.spans.RequestSpans.{RequestSpans}
 use Rattle.gql_wire.specs.Number.{is_number, number_from, number_in}
-use Rattle.gql_wire.specs.Head.{body_limit, Parts, Outcome, refuse, expects, HasOutcome}
+use Rattle.gql_wire.specs.Head.{Parts, Outcome, refuse, expects, HasOutcome}
 use Rattle.gql_wire.specs.Stream.{IsHead, IsOpen, IsRequest, refused, skip_blank, head_limit}
 use Rattle.gql_wire.specs.declared.head.HeadOutcome.{HeadOutcome}
 use Rattle.gql_wire.specs.declared.head.HeadOutcome.TheVariants as code
@@ -39,15 +39,15 @@ outcome_from head (code.Refuse refusal bodiless) = refuse refusal bodiless
 outcome_from head (code.Expects method target length closing) =
     expects (span_bytes head method) (span_bytes head target) length closing
 
--- the spans lie in the head, and the body is within its limit
-abbrev pub AreSpansWithin : ℕ → HeadOutcome → Type 0
-AreSpansWithin n (code.Refuse refusal bodiless) = Unit {0}
-AreSpansWithin n (code.Expects method target length closing) =
-    IsWithin n method × IsWithin n target × (length ≤ body_limit)
+-- the spans lie in the head, and the body is within the limit
+abbrev pub AreSpansWithin : ℕ → ℕ → HeadOutcome → Type 0
+AreSpansWithin limit n (code.Refuse refusal bodiless) = Unit {0}
+AreSpansWithin limit n (code.Expects method target length closing) =
+    IsWithin n method × IsWithin n target × (length ≤ limit)
 
--- the spans of the method and the target lie in the head, and the body is within its limit
-abbrev pub AreWithin : Pending → Type 0
-AreWithin p = IsWithin p.head p.method × IsWithin p.head p.target × (p.length ≤ body_limit)
+-- the spans of the method and the target lie in the head, and the body is within the limit
+abbrev pub AreWithin : ℕ → Pending → Type 0
+AreWithin limit p = IsWithin p.head p.method × IsWithin p.head p.target × (p.length ≤ limit)
 
 -- the outcome of a head with these parts
 abbrev pub outcome_at : List ℕ → Pending → Outcome
@@ -55,24 +55,24 @@ outcome_at head p =
     expects (span_bytes head p.method) (span_bytes head p.target) p.length p.closing
 
 -- a head and a part of its body
-pub record IsBodyOpen (bytes : List ℕ) (p : Pending) : Type 0 where
+pub record IsBodyOpen (limit : ℕ) (bytes : List ℕ) (p : Pending) : Type 0 where
   pub within : p.head ≤ length bytes
   pub head : IsHead (take p.head bytes)
-  pub outcome_is : HasOutcome (take p.head bytes) (outcome_at (take p.head bytes) p)
-  pub spans : AreWithin p
+  pub outcome_is : HasOutcome limit (take p.head bytes) (outcome_at (take p.head bytes) p)
+  pub spans : AreWithin limit p
   pub unfilled : length bytes < p.head + p.length
 
 -- a head and its whole body
-pub record IsBodyDone (bytes : List ℕ) (p : Pending) : Type 0 where
+pub record IsBodyDone (limit : ℕ) (bytes : List ℕ) (p : Pending) : Type 0 where
   pub head : IsHead (take p.head bytes)
-  pub outcome_is : HasOutcome (take p.head bytes) (outcome_at (take p.head bytes) p)
-  pub spans : AreWithin p
+  pub outcome_is : HasOutcome limit (take p.head bytes) (outcome_at (take p.head bytes) p)
+  pub spans : AreWithin limit p
   pub filled : length bytes ≡ p.head + p.length
 
 -- a framer may hold this: an unfinished head, or a head and a part of its body
-abbrev pub IsHeld : List ℕ → Option Pending → Type 0
-IsHeld bytes None = IsOpen bytes × (length bytes < head_limit)
-IsHeld bytes (Some p) = IsBodyOpen bytes p
+abbrev pub IsHeld : ℕ → List ℕ → Option Pending → Type 0
+IsHeld limit bytes None = IsOpen bytes × (length bytes < head_limit)
+IsHeld limit bytes (Some p) = IsBodyOpen limit bytes p
 
 -- more bytes came after an unfinished head of n bytes; they may have a line feed at their end only
 pub record IsGrown (n : ℕ) (bytes : List ℕ) : Type 0 where
@@ -86,9 +86,10 @@ abbrev pub GrowsByLine : List ℕ → Type 0
 GrowsByLine bytes = (n : ℕ) × IsGrown n bytes
 
 -- what a framer does with these bytes of a head
-abbrev pub Advances : List ℕ → Advance → Type 0
-Advances bytes advance.Blank = skip_blank bytes ≡ []
-Advances bytes advance.More = IsHeld bytes None × (skip_blank bytes ≡ bytes)
-Advances bytes (advance.Await p) = IsBodyOpen bytes p × (skip_blank bytes ≡ bytes)
-Advances bytes (advance.Done p) = IsBodyDone bytes p
-Advances bytes (advance.Refuse refusal bodiless) = IsRequest bytes (refused refusal bodiless)
+abbrev pub Advances : ℕ → List ℕ → Advance → Type 0
+Advances limit bytes advance.Blank = skip_blank bytes ≡ []
+Advances limit bytes advance.More = IsHeld limit bytes None × (skip_blank bytes ≡ bytes)
+Advances limit bytes (advance.Await p) = IsBodyOpen limit bytes p × (skip_blank bytes ≡ bytes)
+Advances limit bytes (advance.Done p) = IsBodyDone limit bytes p
+Advances limit bytes (advance.Refuse refusal bodiless) =
+    IsRequest limit bytes (refused refusal bodiless)

@@ -1,6 +1,7 @@
 pub mod Number
 pub mod Head
 pub mod Stream
+pub mod Framing
 pub mod Held
 pub mod Answer
 pub mod Peer

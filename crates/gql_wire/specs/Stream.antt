@@ -57,20 +57,23 @@ pub record IsHead (bytes : List ℕ) : Type 0 where
 
 -- These bytes are one request. Pairs CR LF before a head are dropped. A head that does not end
 -- within the limit, counted after those pairs, is refused as soon as the limit is reached. The
--- outcome of every other head is known when it is whole.
-pub data IsRequest : List ℕ → Req → Type 0 where
-  behind_blank : {bytes : List ℕ} {r : Req} → IsRequest bytes r → IsRequest (13 ∷ 10 ∷ bytes) r
+-- outcome of every other head is known when it is whole. `limit` is the most bytes of a body.
+pub data IsRequest (limit : ℕ) : List ℕ → Req → Type 0 where
+  behind_blank : {bytes : List ℕ} {r : Req} → IsRequest limit bytes r
+      → IsRequest limit (13 ∷ 10 ∷ bytes) r
   long : {bytes : List ℕ} → IsOpen bytes → length bytes ≡ head_limit
-      → IsRequest bytes (refused LongHead false)
+      → IsRequest limit bytes (refused LongHead false)
   stops : {head : List ℕ} {refusal : HeadRefusal} {bodiless : Bool} → IsHead head
-      → HasOutcome head (refuse refusal bodiless) → IsRequest head (refused refusal bodiless)
+      → HasOutcome limit head (refuse refusal bodiless)
+      → IsRequest limit head (refused refusal bodiless)
   whole : {head body method target : List ℕ} {closing : Bool} → IsHead head
-      → HasOutcome head (expects method target (length body) closing)
-      → IsRequest (head ++ body) (request method target body closing)
+      → HasOutcome limit head (expects method target (length body) closing)
+      → IsRequest limit (head ++ body) (request method target body closing)
 
 -- no bytes at the front of these are a request
-abbrev pub IsUnfinished : List ℕ → Type 0
-IsUnfinished bytes = (front more : List ℕ) (r : Req) → IsRequest front r → front ++ more ≡ bytes → ⊥
+abbrev pub IsUnfinished : ℕ → List ℕ → Type 0
+IsUnfinished limit bytes =
+    (front more : List ℕ) (r : Req) → IsRequest limit front r → front ++ more ≡ bytes → ⊥
 
 -- a request, and the offset in the stream at which it is complete
 pub record Placed : Type 0 where
@@ -79,20 +82,20 @@ pub record Placed : Type 0 where
 
 -- The bytes from the offset `at` on are these requests and an unfinished rest. A request that
 -- closes the connection is the last one, and the bytes after it are dropped.
-pub data Splits : ℕ → List ℕ → List Placed → List ℕ → Type 0 where
-  unfinished : {at : ℕ} {bytes rest : List ℕ} → IsUnfinished bytes → rest ≡ skip_blank bytes
-      → Splits at bytes [] rest
+pub data Splits (limit : ℕ) : ℕ → List ℕ → List Placed → List ℕ → Type 0 where
+  unfinished : {at : ℕ} {bytes rest : List ℕ} → IsUnfinished limit bytes → rest ≡ skip_blank bytes
+      → Splits limit at bytes [] rest
   last : {at : ℕ} {front bytes : List ℕ} (more : List ℕ) {r : Req}
-      → IsRequest front r → closes r ≡ true → front ++ more ≡ bytes
-      → Splits at bytes (record { request = r; end = at + length front } ∷ []) []
+      → IsRequest limit front r → closes r ≡ true → front ++ more ≡ bytes
+      → Splits limit at bytes (record { request = r; end = at + length front } ∷ []) []
   next : {at : ℕ} {front more bytes rest : List ℕ} {r : Req} {rs : List Placed}
-      → IsRequest front r → closes r ≡ false → front ++ more ≡ bytes
-      → Splits (at + length front) more rs rest
-      → Splits at bytes (record { request = r; end = at + length front } ∷ rs) rest
+      → IsRequest limit front r → closes r ≡ false → front ++ more ≡ bytes
+      → Splits limit (at + length front) more rs rest
+      → Splits limit at bytes (record { request = r; end = at + length front } ∷ rs) rest
 
 -- the requests of a connection's bytes, and the unfinished rest
-abbrev pub Requests : List ℕ → List Placed → List ℕ → Type 0
-Requests bytes rs rest = Splits 0 bytes rs rest
+abbrev pub Requests : ℕ → List ℕ → List Placed → List ℕ → Type 0
+Requests limit bytes rs rest = Splits limit 0 bytes rs rest
 
 -- the connection is open after these requests
 abbrev pub StaysOpen : List Placed → Type 0

@@ -15,9 +15,6 @@ use httparse::spans::{EMPTY_HEADER_SPAN, HeaderSpan, RequestSpans, Span, parse_r
 /// The most fields that a head may have.
 const MAX_FIELDS: usize = 32;
 
-/// The most bytes that a body may have (`body_limit` in contracts).
-const MAX_BODY_BYTES: usize = 262_144;
-
 /// Why a head is refused. After each refusal the connection closes.
 #[derive(Clone, Copy, Debug, PartialEq, Eq)]
 pub enum HeadRefusal {
@@ -25,7 +22,7 @@ pub enum HeadRefusal {
     BadHead,
     /// 302: it does not end within 8,192 bytes.
     LongHead,
-    /// 303: its body has more than 262,144 bytes.
+    /// 303: its body has more bytes than the limit of bodies, which is 262,144 if none is given.
     LongBody,
     /// 304: it has a field Transfer-Encoding.
     TransferCoding,
@@ -199,14 +196,19 @@ fn whole_head(head: &[u8], fields: &mut [HeaderSpan]) -> Option<RequestSpans>
     }
 }
 
-/// The outcome of a head whose parts are at these spans.
-fn outcome_of_parts(head: &[u8], spans: RequestSpans, fields: &[HeaderSpan]) -> HeadOutcome
+/// The outcome of a head whose parts are at these spans. `limit` is the most bytes of a body.
+fn outcome_of_parts(
+    limit: usize,
+    head: &[u8],
+    spans: RequestSpans,
+    fields: &[HeaderSpan],
+) -> HeadOutcome
     requires method { IsWithin (length head.now) spans.method }
     requires path { IsWithin (length head.now) spans.path }
     requires fields_within { All (IsHeaderWithin (length head.now)) fields.now }
     ensures outcome_is { outcome_from head.now result
-        ≡ outcome_of (parts_at head.now fields.now spans) }
-    ensures within { AreSpansWithin (length head.now) result }
+        ≡ outcome_of limit (parts_at head.now fields.now spans) }
+    ensures within { AreSpansWithin limit (length head.now) result }
 {
     let bodiless = is_head_method(spans.method.of(head));
     if has_field(head, fields, b"transfer-encoding") {
@@ -220,7 +222,7 @@ fn outcome_of_parts(head: &[u8], spans: RequestSpans, fields: &[HeaderSpan]) -> 
             refusal: HeadRefusal::BadLength,
             bodiless,
         },
-        Some(length) if length > MAX_BODY_BYTES => HeadOutcome::Refuse {
+        Some(length) if length > limit => HeadOutcome::Refuse {
             refusal: HeadRefusal::LongBody,
             bodiless,
         },
@@ -233,10 +235,10 @@ fn outcome_of_parts(head: &[u8], spans: RequestSpans, fields: &[HeaderSpan]) -> 
     }
 }
 
-/// The outcome of these bytes, as a head.
-pub fn read_head(head: &[u8]) -> HeadOutcome
-    ensures outcome_is { HasOutcome head.now (outcome_from head.now result) }
-    ensures within { AreSpansWithin (length head.now) result }
+/// The outcome of these bytes, as a head. `limit` is the most bytes of a body.
+pub fn read_head(limit: usize, head: &[u8]) -> HeadOutcome
+    ensures outcome_is { HasOutcome limit head.now (outcome_from head.now result) }
+    ensures within { AreSpansWithin limit (length head.now) result }
 {
     let mut fields = [EMPTY_HEADER_SPAN; MAX_FIELDS];
     match whole_head(head, &mut fields) {
@@ -244,6 +246,6 @@ pub fn read_head(head: &[u8]) -> HeadOutcome
             refusal: HeadRefusal::BadHead,
             bodiless: false,
         },
-        Some(spans) => outcome_of_parts(head, spans, &fields[..spans.headers]),
+        Some(spans) => outcome_of_parts(limit, head, spans, &fields[..spans.headers]),
     }
 }

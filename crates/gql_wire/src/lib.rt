@@ -18,4 +18,4 @@ pub use head::HeadRefusal;
 pub use mem_peer::{MemPeer, Moves, Passed};
 pub use number::number_in;
 pub use peer::{Peer, ReadFailed, WriteFailed, write_all};
-pub use stream::{Framed, Framer};
+pub use stream::{Framed, Framer, GREATEST_BODY_LIMIT};

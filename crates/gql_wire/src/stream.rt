@@ -1,6 +1,8 @@
 //! The requests of a stream of bytes, which come in any pieces.
 ghost use Rattle.std.specs.Prelude.{◌≡◌, ◌+◌, ◌<◌, ◌≤◌, ◌-◌, Some, None, ◌++◌, ◌∷◌, [], List, ℕ, length, take, IfOk, OnErr, IfNone, IfSome, MatchOption, nat_lt};
 ghost use Rattle.gql_wire.specs.Stream.{IsUnfinished, IsRequest, req, begins_blank, skip_blank};
+ghost use Rattle.gql_wire.specs.Framing.{begun};
+ghost use Rattle.gql_wire.specs.Head.{body_limit};
 ghost use Rattle.gql_wire.specs.Held.{IsHeld, GrowsByLine, IsBodyOpen, IsBodyDone, Advances};
 
 use crate::head::{HeadOutcome, HeadRefusal, read_head};
@@ -11,6 +13,12 @@ use std::marker::Model;
 
 /// The most bytes that a head may have (`head_limit` in contracts).
 const MAX_HEAD_BYTES: usize = 8192;
+
+/// The most bytes that a body may have, unless another limit is given (`body_limit` in contracts).
+const MAX_BODY_BYTES: usize = 262_144;
+
+/// The greatest limit of bodies that a framer can be given.
+pub const GREATEST_BODY_LIMIT: usize = 67_108_864;
 
 /// A request, or a refused head.
 #[derive(Debug, Drop, PartialEq, Eq)]
@@ -63,23 +71,33 @@ enum Advance {
     },
 }
 
-/// The unfinished request at the end of a stream. In contracts its value is the bytes that it
-/// holds. Pairs CR LF before a head are dropped at once.
+/// The bytes of an unfinished request, its head if that is whole, and the most bytes of its body.
 #[derive(Drop)]
-pub struct Framer {
+struct Unfinished {
     bytes: Vec<u8>,
     pending: Option<Pending>,
+    limit: usize,
+}
+
+/// The unfinished request at the end of a stream. In contracts its value is the bytes that it
+/// holds, with the limit of bodies. Pairs CR LF before a head are dropped at once.
+#[derive(Drop)]
+pub struct Framer {
+    held: Unfinished,
 }
 
 impl Model for Framer {
-    ghost use Rattle.std.specs.Prelude.{List, ℕ};
+    ghost use Rattle.std.specs.Prelude.{◌≤◌};
+    ghost use Rattle.gql_wire.specs.Framing.{Framing};
+    ghost use Rattle.gql_wire.specs.Head.{greatest_body_limit};
     ghost use Rattle.gql_wire.specs.Held.{IsHeld};
 
-    ghost Value = { List ℕ };
+    ghost Value = { Framing };
 
-    ghost view = { λ f. f.bytes.items };
+    ghost view = { λ f. record { limit = f.held.limit; bytes = f.held.bytes.items } };
 
-    ghost invariant = { λ f. IsHeld f.bytes.items f.pending };
+    ghost invariant = { λ f. IsHeld f.held.limit f.held.bytes.items f.held.pending
+        × (f.held.limit ≤ greatest_body_limit) };
 }
 
 /// Whether the bytes begin with CR LF.
@@ -89,15 +107,16 @@ fn begins_with_blank(bytes: &[u8]) -> bool
     matches!(bytes, [b'\r', b'\n', ..])
 }
 
-/// What to do with these bytes of a head, after at most one line of them was added.
-fn advance_head(bytes: &[u8]) -> Advance
+/// What to do with these bytes of a head, after at most one line of them was added. `limit` is the
+/// most bytes of a body.
+fn advance_head(limit: usize, bytes: &[u8]) -> Advance
     requires { GrowsByLine bytes.now }
-    ensures { Advances bytes.now result }
+    ensures { Advances limit bytes.now result }
 {
     if begins_with_blank(bytes) {
         Advance::Blank
     } else if bytes.ends_with(b"\r\n\r\n") {
-        match read_head(bytes) {
+        match read_head(limit, bytes) {
             HeadOutcome::Refuse { refusal, bodiless } => Advance::Refuse { refusal, bodiless },
             HeadOutcome::Expects {
                 method,
@@ -129,11 +148,14 @@ fn advance_head(bytes: &[u8]) -> Advance
     }
 }
 
-/// The request that these bytes are.
-fn request_of(alloc: Global, bytes: &[u8], pending: Pending) -> Result<Framed, AllocError>
-    requires { IsBodyDone bytes.now pending }
-    ensures { IfOk result (λ framed. IsRequest bytes.now (req framed)) }
+/// The request that the bytes are.
+fn request_of(held: &Unfinished, pending: Pending) -> Result<Framed, AllocError>
+    requires { IsBodyDone held.now.limit held.now.bytes.items pending }
+    ensures { IfOk result (λ framed.
+        IsRequest held.now.limit held.now.bytes.items (req framed)) }
 {
+    let alloc = *held.bytes.allocator();
+    let bytes = held.bytes.as_slice();
     let head = &bytes[..pending.head];
     let method = Vec::from_slice(alloc, pending.method.of(head))?;
     let target = Vec::from_slice(alloc, pending.target.of(head))?;
@@ -149,44 +171,41 @@ fn request_of(alloc: Global, bytes: &[u8], pending: Pending) -> Result<Framed, A
 
 /// Takes bytes of a head, up to the end of a line. Returns how many, and the request that they
 /// complete.
-fn push_head(
-    bytes: &mut Vec<u8>,
-    pending: &mut Option<Pending>,
-    piece: &[u8],
-) -> Result<(usize, Option<Framed>), AllocError>
-    requires held { IsHeld bytes.old.items None }
-    requires none { pending.old ≡ None }
+fn push_head(held: &mut Unfinished, piece: &[u8]) -> Result<(usize, Option<Framed>), AllocError>
+    requires held { IsHeld held.old.limit held.old.bytes.items None }
+    requires none { held.old.pending ≡ None }
     requires some { 0 < length piece.now }
-    ensures held { IsHeld bytes.new.items pending.new }
+    ensures held { IsHeld held.old.limit held.new.bytes.items held.new.pending }
+    ensures limit { held.new.limit ≡ held.old.limit }
     ensures within { IfOk result (λ taken. (0 < taken.0) × (taken.0 ≤ length piece.now)) }
     ensures found { IfOk result (λ taken. MatchOption taken.1
-        (bytes.new.items ≡ skip_blank (bytes.old.items ++ take taken.0 piece.now))
-        (λ framed. (bytes.new.items ≡ [])
-        × IsRequest (bytes.old.items ++ take taken.0 piece.now) (req framed))) }
-    ensures emptied { OnErr result (bytes.new.items ≡ []) }
+        (held.new.bytes.items ≡ skip_blank (held.old.bytes.items ++ take taken.0 piece.now))
+        (λ framed. (held.new.bytes.items ≡ []) × IsRequest held.old.limit
+        (held.old.bytes.items ++ take taken.0 piece.now) (req framed))) }
+    ensures emptied { OnErr result (held.new.bytes.items ≡ []) }
 {
-    let count = line_len(piece).min(MAX_HEAD_BYTES - bytes.len());
-    let Ok(()) = bytes.extend_from_slice(front(piece, count)) else {
-        bytes.clear();
+    let count = line_len(piece).min(MAX_HEAD_BYTES - held.bytes.len());
+    let Ok(()) = held.bytes.extend_from_slice(front(piece, count)) else {
+        held.bytes.clear();
         return Err(AllocError);
     };
-    match advance_head(bytes.as_slice()) {
+    match advance_head(held.limit, held.bytes.as_slice()) {
         Advance::Blank => {
-            bytes.clear();
+            held.bytes.clear();
             Ok((count, None))
         }
         Advance::More => Ok((count, None)),
         Advance::Await(expected) => {
-            *pending = Some(expected);
+            held.pending = Some(expected);
             Ok((count, None))
         }
         Advance::Done(expected) => {
-            let framed = request_of(*bytes.allocator(), bytes.as_slice(), expected);
-            bytes.clear();
+            let framed = request_of(held, expected);
+            held.bytes.clear();
             Ok((count, Some(framed?)))
         }
         Advance::Refuse { refusal, bodiless } => {
-            bytes.clear();
+            held.bytes.clear();
             Ok((
                 count,
                 Some(Framed::Refused {
@@ -201,46 +220,58 @@ fn push_head(
 /// Takes the missing bytes of a body, as many of them as the piece has. Returns how many, and the
 /// request that they complete.
 fn fill_body(
-    bytes: &mut Vec<u8>,
-    pending: &mut Option<Pending>,
+    held: &mut Unfinished,
     expected: Pending,
     piece: &[u8],
 ) -> Result<(usize, Option<Framed>), AllocError>
-    requires held { IsBodyOpen bytes.old.items expected }
-    requires same { pending.old ≡ Some expected }
+    requires held { IsBodyOpen held.old.limit held.old.bytes.items expected }
+    requires bounded { held.old.limit ≤ GREATEST_BODY_LIMIT }
+    requires same { held.old.pending ≡ Some expected }
     requires some { 0 < length piece.now }
-    ensures held { IsHeld bytes.new.items pending.new }
+    ensures held { IsHeld held.old.limit held.new.bytes.items held.new.pending }
+    ensures limit { held.new.limit ≡ held.old.limit }
     ensures within { IfOk result (λ taken. (0 < taken.0) × (taken.0 ≤ length piece.now)) }
     ensures found { IfOk result (λ taken. MatchOption taken.1
-        (bytes.new.items ≡ skip_blank (bytes.old.items ++ take taken.0 piece.now))
-        (λ framed. (bytes.new.items ≡ [])
-        × IsRequest (bytes.old.items ++ take taken.0 piece.now) (req framed))) }
-    ensures emptied { OnErr result (bytes.new.items ≡ []) }
+        (held.new.bytes.items ≡ skip_blank (held.old.bytes.items ++ take taken.0 piece.now))
+        (λ framed. (held.new.bytes.items ≡ []) × IsRequest held.old.limit
+        (held.old.bytes.items ++ take taken.0 piece.now) (req framed))) }
+    ensures emptied { OnErr result (held.new.bytes.items ≡ []) }
 {
-    let missing = expected.head + expected.length - bytes.len();
+    let missing = expected.head + expected.length - held.bytes.len();
     let count = missing.min(piece.len());
-    let Ok(()) = bytes.extend_from_slice(front(piece, count)) else {
-        bytes.clear();
-        *pending = None;
+    let Ok(()) = held.bytes.extend_from_slice(front(piece, count)) else {
+        held.bytes.clear();
+        held.pending = None;
         return Err(AllocError);
     };
     if count < missing {
         return Ok((count, None));
     }
-    let framed = request_of(*bytes.allocator(), bytes.as_slice(), expected);
-    bytes.clear();
-    *pending = None;
+    let framed = request_of(held, expected);
+    held.bytes.clear();
+    held.pending = None;
     Ok((count, Some(framed?)))
 }
 
 impl Framer {
-    /// A framer that holds nothing.
+    /// A framer that holds nothing. A body may have 262,144 bytes.
     pub fn new(alloc: Global) -> Self
-        ensures { result ≡ [] }
+        ensures { result ≡ begun body_limit }
+    {
+        Framer::within(alloc, MAX_BODY_BYTES)
+    }
+
+    /// A framer that holds nothing. A body may have as many bytes as `limit` says.
+    pub fn within(alloc: Global, limit: usize) -> Self
+        requires { limit ≤ GREATEST_BODY_LIMIT }
+        ensures { result ≡ begun limit }
     {
         Framer {
-            bytes: Vec::new(alloc),
-            pending: None,
+            held: Unfinished {
+                bytes: Vec::new(alloc),
+                pending: None,
+                limit,
+            },
         }
     }
 
@@ -248,42 +279,44 @@ impl Framer {
     /// many, and the request that they complete.
     fn step(&mut self, piece: &[u8]) -> Result<(usize, Option<Framed>), AllocError>
         requires { 0 < length piece.now }
+        ensures limit { self.new.limit ≡ self.old.limit }
         ensures within { IfOk result (λ taken. (0 < taken.0) × (taken.0 ≤ length piece.now)) }
         ensures found { IfOk result (λ taken. MatchOption taken.1
-            (self.new ≡ skip_blank (self.old ++ take taken.0 piece.now))
-            (λ framed. (self.new ≡ [])
-            × IsRequest (self.old ++ take taken.0 piece.now) (req framed))) }
-        ensures emptied { OnErr result (self.new ≡ []) }
+            (self.new.bytes ≡ skip_blank (self.old.bytes ++ take taken.0 piece.now))
+            (λ framed. (self.new.bytes ≡ []) × IsRequest self.old.limit
+            (self.old.bytes ++ take taken.0 piece.now) (req framed))) }
+        ensures emptied { OnErr result (self.new.bytes ≡ []) }
     {
-        match self.pending {
-            None => push_head(&mut self.bytes, &mut self.pending, piece),
-            Some(expected) => fill_body(&mut self.bytes, &mut self.pending, expected, piece),
+        match self.held.pending {
+            None => push_head(&mut self.held, piece),
+            Some(expected) => fill_body(&mut self.held, expected, piece),
         }
     }
 
     /// Does nothing: its contract is what every framer meets. The bytes that it holds do not begin
     /// with CR LF, and no front of them is a request.
     fn touch(&self)
-        ensures begun { skip_blank self.now ≡ self.now }
-        ensures unfinished { IsUnfinished self.now }
+        ensures begun { skip_blank self.now.bytes ≡ self.now.bytes }
+        ensures unfinished { IsUnfinished self.now.limit self.now.bytes }
     {
-        let _pending = &self.pending;
+        let _held = &self.held;
     }
 
     /// Takes bytes up to the end of the first request that they complete. Returns how many it took,
     /// and the request. If they complete no request, it takes all of them and holds the unfinished
     /// request. If an allocation fails, the bytes that it held are lost.
     pub fn take(&mut self, piece: &[u8]) -> Result<(usize, Option<Framed>), AllocError>
+        ensures limit { self.new.limit ≡ self.old.limit }
         ensures within { IfOk result (λ taken. taken.0 ≤ length piece.now) }
         ensures moved { IfOk result (λ taken. IfSome taken.1 (λ _. 0 < taken.0)) }
-        ensures more { IfOk result (λ taken. IfNone taken.1
-            ((taken.0 ≡ length piece.now) × (self.new ≡ skip_blank (self.old ++ piece.now)))) }
+        ensures more { IfOk result (λ taken. IfNone taken.1 ((taken.0 ≡ length piece.now)
+            × (self.new.bytes ≡ skip_blank (self.old.bytes ++ piece.now)))) }
         ensures none { IfOk result (λ taken.
-            IfNone taken.1 (IsUnfinished (self.old ++ piece.now))) }
-        ensures framed { IfOk result (λ taken. IfSome taken.1 (λ framed.
-            (self.new ≡ []) × IsRequest (self.old ++ take taken.0 piece.now) (req framed))) }
-        ensures rest { IfOk result (λ _. IsUnfinished self.new) }
-        ensures emptied { OnErr result (self.new ≡ []) }
+            IfNone taken.1 (IsUnfinished self.old.limit (self.old.bytes ++ piece.now))) }
+        ensures framed { IfOk result (λ taken. IfSome taken.1 (λ framed. (self.new.bytes ≡ [])
+            × IsRequest self.old.limit (self.old.bytes ++ take taken.0 piece.now) (req framed))) }
+        ensures rest { IfOk result (λ _. IsUnfinished self.new.limit self.new.bytes) }
+        ensures emptied { OnErr result (self.new.bytes ≡ []) }
     {
         self.touch();
         let mut taken = 0;
@@ -301,8 +334,8 @@ impl Framer {
 
     /// Whether the framer holds an unfinished request.
     pub fn has_rest(&self) -> bool
-        ensures { result ≡ nat_lt 0 (length self.now) }
+        ensures { result ≡ nat_lt 0 (length self.now.bytes) }
     {
-        !self.bytes.is_empty()
+        !self.held.bytes.is_empty()
     }
 }

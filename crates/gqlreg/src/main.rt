@@ -6,11 +6,13 @@
 mod push;
 
 ghost use Rattle.std.specs.Prelude.{◌≡◌, ◌≤◌, None};
+ghost use Rattle.gql_command.specs.CommandLine.{HasRanges};
 ghost use Rattle.gql_http.specs.Hubs.{rests_of};
 ghost use Rattle.gql_server.specs.Together.{AreClosed};
 
 use crate::push::run_push;
-use gql_command::{Command, CommandFault, read_command};
+use gql_ast::Profile;
+use gql_command::{Command, CommandFault, ProfiledCommand, read_profiled_command};
 use gql_folder_check::{run_check, run_usage};
 use gql_folder_command::{
     FolderCommand, FolderCommandFault, is_folder_command, read_folder_command,
@@ -33,9 +35,9 @@ fn words(rt: &HostRuntime) -> io::Result<Vec<String>> {
     Ok(words)
 }
 
-/// Answers the requests of standard input on standard output.
-fn run_pipe(rt: &HostRuntime) -> u8 {
-    let mut hub = Hub::new(rt.alloc(), Registry::new(rt.alloc()));
+/// Answers the requests of standard input on standard output, by a registry of this profile.
+fn run_pipe(rt: &HostRuntime, profile: Profile) -> u8 {
+    let mut hub = Hub::new(rt.alloc(), Registry::with(rt.alloc(), profile));
     let mut peer = DevicePeer::new(rt.stdin(), rt.stdout());
     let status = status_of(&pipe(&mut hub, &mut peer));
     // The process ends, and its memory goes to the system at once: nothing is freed piece by piece.
@@ -105,11 +107,12 @@ fn serve_at_once(
     serve_together(rt, rt.alloc(), &mut listener, hub, connections, at_once)
 }
 
-/// Answers the requests of this many connections to a port of 127.0.0.1, so many at one time.
-fn run_serve(rt: &HostRuntime, port: u16, connections: u32, at_once: u8) -> u8
+/// Answers the requests of this many connections to a port of 127.0.0.1, so many at one time, by a
+/// registry of this profile.
+fn run_serve(rt: &HostRuntime, profile: Profile, port: u16, connections: u32, at_once: u8) -> u8
     requires { at_once ≤ 16 }
 {
-    let mut hub = Hub::new(rt.alloc(), Registry::new(rt.alloc()));
+    let mut hub = Hub::new(rt.alloc(), Registry::with(rt.alloc(), profile));
     let served = if at_once == 1 {
         serve_in_turn(rt, &mut hub, port, connections)
     } else {
@@ -167,6 +170,20 @@ fn report_unread(rt: &HostRuntime, error: &io::Error) -> u8 {
     }
 }
 
+/// Runs a command of a registry of this profile, and returns the status.
+fn run_command(rt: &HostRuntime, profile: Profile, command: Command) -> u8
+    requires { HasRanges command }
+{
+    match command {
+        Command::Pipe => run_pipe(rt, profile),
+        Command::Serve {
+            port,
+            connections,
+            at_once,
+        } => run_serve(rt, profile, port, connections, at_once),
+    }
+}
+
 /// Status 0: done; 1: a read, a write or the network failed, or there were too many reads; 2: the
 /// command line is refused; 3: the input ended within a request; 4: an allocation failed.
 fn main(rt: HostRuntime) -> ExitCode {
@@ -177,15 +194,8 @@ fn main(rt: HostRuntime) -> ExitCode {
     if is_folder_command(words.as_slice()) {
         return ExitCode::from(run_on_folder(&rt, words.as_slice()));
     }
-    ExitCode::from(match read_command(rt.alloc(), words.as_slice()) {
-        Ok(Command::Pipe) => run_pipe(&rt),
-        Ok(
-            Command::Serve {
-                port,
-                connections,
-                at_once,
-            },
-        ) => run_serve(&rt, port, connections, at_once),
+    ExitCode::from(match read_profiled_command(rt.alloc(), words.as_slice()) {
+        Ok(ProfiledCommand { command, profile }) => run_command(&rt, profile, command),
         Err(fault) => report_fault(&rt, fault),
     })
 }

@@ -7,10 +7,10 @@ use gql_folder_push::{PushEnd, end_push, push_files};
 
 /// Pushes the files of a folder.
 fn push(rt: &HostRuntime, options: &PushOptions) -> Result<PushEnd, Failure> {
-    let folder = options.folder.as_str();
-    let given = given_files(rt, folder, options.manifests.as_slice())?;
+    let (profile, folder) = (options.profile, options.folder.as_str());
+    let given = given_files(rt, &profile.limits, folder, options.manifests.as_slice())?;
     tell_made(rt, &given);
-    let findings = checked(rt, folder, given.files.as_slice(), Format::Text)?;
+    let findings = checked(rt, profile, folder, given.files.as_slice(), Format::Text)?;
     push_files(rt, options, given.files, &findings)
 }
 

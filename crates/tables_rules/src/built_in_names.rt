@@ -21,10 +21,10 @@ fn written_name(alloc: Global, definition: &Sited<Tree>) -> Option<String> {
     }
 }
 
-/// The names of the definitions that every schema has.
-pub fn built_in_answer(alloc: Global) -> Option<String> {
+/// The names of the definitions that every schema has, with `Float` or without it.
+pub fn built_in_answer(alloc: Global, floats: bool) -> Option<String> {
     let mut names = String::new(alloc);
-    for definition in built_in_definitions(alloc).ok()?.as_slice() {
+    for definition in built_in_definitions(alloc, floats).ok()?.as_slice() {
         let name = written_name(alloc, definition)?;
         join(&mut names, " ", name.as_str()).ok()?;
     }

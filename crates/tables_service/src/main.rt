@@ -13,6 +13,7 @@ mod heads;
 mod interleaved;
 mod moves;
 mod pipes;
+mod profiles;
 mod questions;
 mod row_files;
 mod running;

@@ -5,6 +5,7 @@ use crate::editing::Editing;
 use crate::heads::head_answer;
 use crate::interleaved::interleaved_answer;
 use crate::pipes::pipe_answer;
+use crate::profiles::profile_named;
 use crate::row_files::{RowFiles, parser_answer};
 use crate::servers::serves_answer;
 use crate::transcripts::{Transcript, connections_answer, written_request};
@@ -55,7 +56,11 @@ impl ServiceRow {
     fn some_answer(&mut self, rt: &HostRuntime, given: &Given, question: &str) -> Option<String> {
         let (word, rest) = question.split_once(" ").unwrap_or((question, ""));
         match word {
-            "report" | "runs" => self.files.answer(given, word),
+            "report" | "runs" if rest.is_empty() => self.files.answer(given, word),
+            "report" => {
+                let profile = profile_named(rest)?;
+                RowFiles::under(self.alloc, profile).answer(given, word)
+            }
             "edit" => self.editing.step(rest),
             "hub" => self.transcript.step(rest),
             "on" | "run" | "many" => self.editing.run_step(question),

@@ -1,7 +1,7 @@
 //! The registry with the files of a row.
 use crate::faults::written_faults;
 use crate::running::only_run;
-use gql_ast::FileName;
+use gql_ast::{FileName, Profile};
 use gql_parse_sdl::{parse_any, parse_sdl};
 use gql_registry::Registry;
 use gql_verdict::Meter;
@@ -30,9 +30,14 @@ pub fn parser_answer(alloc: Global, parser: &str, text: &str) -> Option<String> 
 impl RowFiles {
     /// Without files.
     pub fn new(alloc: Global) -> RowFiles {
+        RowFiles::under(alloc, Profile::whole_numbers())
+    }
+
+    /// Without files, under this profile.
+    pub fn under(alloc: Global, profile: Profile) -> RowFiles {
         RowFiles {
             alloc,
-            registry: Registry::new(alloc),
+            registry: Registry::with(alloc, profile),
             is_put: false,
         }
     }

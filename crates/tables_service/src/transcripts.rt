@@ -1,5 +1,6 @@
 //! Transcripts of a service with several connections: what each step gives.
 use crate::bytes::bytes_in;
+use crate::profiles::profile_named;
 use crate::written_answers::written_answers;
 use gql_http::{Hub, OpenRefusal};
 use gql_registry::Registry;
@@ -101,15 +102,22 @@ impl Transcript {
         }
     }
 
-    /// What a step gives: `begin`, `open NUMBER`, `close NUMBER`, `is-open NUMBER`, `feed NUMBER
+    /// Begins a new service on an empty registry, under the profile of this name, if there is one.
+    fn begin(&mut self, profile: &str) -> Option<String> {
+        let registry = match profile {
+            "" => Registry::new(self.alloc),
+            _ => Registry::with(self.alloc, profile_named(profile)?),
+        };
+        self.hub = Hub::new(self.alloc, registry);
+        String::from_str(self.alloc, "begun").ok()
+    }
+
+    /// What a step gives: `begin`, `begin PROFILE`, `open NUMBER`, `close NUMBER`, `is-open NUMBER`, `feed NUMBER
     /// STRING` or `request NUMBER METHOD TARGET BODY`.
     pub fn step(&mut self, step: &str) -> Option<String> {
         let (word, rest) = step.split_once(" ").unwrap_or((step, ""));
         match word {
-            "begin" => {
-                self.hub = Hub::new(self.alloc, Registry::new(self.alloc));
-                String::from_str(self.alloc, "begun").ok()
-            }
+            "begin" => self.begin(rest),
             "feed" => self.feed_string(rest),
             "request" => self.feed_request(rest),
             _ => String::from_str(self.alloc, self.short_step(word, rest)?).ok(),

@@ -9,7 +9,7 @@ use crate::levels::{placed_answer, visited_answer};
 use crate::parsers::parser_answer;
 use crate::peers::{device_answer, peer_answer};
 use crate::streams::requests_answer;
-use crate::tokens::{count_answer, end_answer, tokens_answer, value_answer};
+use crate::tokens::{count_answer, count_within_answer, end_answer, tokens_answer, value_answer};
 use crate::trees::trees_answer;
 use gql_ast::FileName;
 use std::alloc::{AllocError, Global};
@@ -30,6 +30,7 @@ fn text_answer(alloc: Global, text: &str, word: &str, rest: &str) -> Option<Stri
         "doc" | "sdl" | "any" | "doc-tokens" => parser_answer(alloc, word, text),
         "tokens" => tokens_answer(alloc, text).ok(),
         "count" => count_answer(alloc, text).ok(),
+        "count-within" => count_within_answer(alloc, text, rest),
         "value" => value_answer(alloc, text).ok(),
         "end" => end_answer(alloc, text).ok(),
         "visited" => visited_answer(alloc, text),

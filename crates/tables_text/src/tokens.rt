@@ -1,6 +1,6 @@
 //! Tokens as the table writes them (GraphQL specification, 2.1).
 use crate::trees::{Written, write_quoted};
-use gql_text::{LexFault, Place, Token, end_place, lex, text_value};
+use gql_text::{LexFault, Place, Token, end_place, lex, lex_within, text_value};
 use std::alloc::{AllocError, Global};
 
 /// Adds a place as its line, its column and its offset.
@@ -67,15 +67,32 @@ pub fn tokens_answer(alloc: Global, text: &str) -> Result<String, AllocError> {
     }
 }
 
-/// How many tokens a text has.
-pub fn count_answer(alloc: Global, text: &str) -> Result<String, AllocError> {
-    match lex(alloc, text) {
+/// How many tokens there are, or why there are none.
+fn written_count(
+    alloc: Global,
+    lexed: Result<Vec<Token<'_>>, LexFault>,
+) -> Result<String, AllocError> {
+    match lexed {
         Ok(tokens) => {
             let count = tokens.len();
             format!(in alloc; "{count}")
         }
         Err(fault) => written_refusal(alloc, &fault),
     }
+}
+
+/// How many tokens a text has.
+pub fn count_answer(alloc: Global, text: &str) -> Result<String, AllocError> {
+    written_count(alloc, lex(alloc, text))
+}
+
+/// How many tokens a text of at most so many bytes has.
+pub fn count_within_answer(alloc: Global, text: &str, limit: &str) -> Option<String> {
+    let limit = limit.parse::<usize>().ok()?;
+    if limit > 16_777_216 {
+        return None;
+    }
+    written_count(alloc, lex_within(alloc, text, limit)).ok()
 }
 
 /// The value of the one token that a text is.

@@ -14,9 +14,9 @@ loop-at-init c =
     let fault = c.file_fault.result in
     let lookup = c.in-Some.ensures.lookup in
     let one : c.push.new.self.items ≡ fault ∷ [] = c.in_ok-push.ensures.items ∙ ap (λ xs. xs ++ fault ∷ []) c.new-refused.ensures.items in
-    subst (AreRefused edits indices _) (sym one)
+    subst (AreRefused c.args.profile edits indices _) (sym one)
     (elim c.match-matches.branch [
       | in-Memory w ↦ differ c.match-matches.matches w.matches-is c.if-matches.false
-      | in_default-matches w ↦ refused_first edits indices first.at c.in-Some.file.now first.refusal fault w.in_default-matches.not-Memory c.requires
+      | in_default-matches w ↦ refused_first c.args.profile edits indices first.at c.in-Some.file.now first.refusal fault w.in_default-matches.not-Memory c.requires
           (found_at indices c.deref.result.now first.at c.in-Some.file.now c.deref.ensures.value lookup.3.0 lookup.1) c.file_fault.ensures
     ])

@@ -5,11 +5,11 @@ use Rattle.gql_facts.proofs.walk.walk_reads.Goals as goal
 
 pub walk-init : goal.walk-init
 walk-init g c = record {
-  same_facts = c.in_ok-scan_tree.ensures.facts;
-  same_names = c.in_ok-scan_tree.ensures.names;
-  same_lent = c.in_ok-scan_tree.ensures.lent;
+  same_facts = c.in_ok-scan_definition.ensures.facts;
+  same_names = c.in_ok-scan_definition.ensures.names;
+  same_lent = c.in_ok-scan_definition.ensures.lent;
   walked = first_visit (g.W.World.facts c.args.world.now) (g.W.World.names c.args.world.now) (g.met.W.World.is_world c.args.world.now) c.args.definition.now _ _ _ _ _
-      c.new-keys.ensures.empty c.new-members.ensures.items c.in_ok-scan_tree.ensures.scanned;
+      c.new-keys.ensures.empty c.new-members.ensures.items c.in_ok-scan_definition.ensures.scanned;
 }
 
 pub walk-smaller : goal.walk-smaller
@@ -46,9 +46,9 @@ returns-clause-asked g c =
     let w = g.met.W.World.is_world c.args.world.now in
     walked_asked F N w c.args.definition.now c.walk.keys.keys _ _ _ (at_end F N w c.args.definition.now _ _ c.walk.at c.walk.keys.keys _ c.walk.invariant.walked (λ lt. omega (arith, lt, c.walk-test.false, c.len.ensures.len)))
 
-pub returns-in_err-scan_tree-clause-failed : goal.returns-in_err-scan_tree-clause-failed
-returns-in_err-scan_tree-clause-failed g c = on_error c.from_residual.result (failed_first (g.W.World.facts c.args.world.now) (g.W.World.names c.args.world.now) (g.met.W.World.is_world c.args.world.now)
-    c.args.definition.now _ _ c.in_err-scan_tree.ensures.failed)
+pub returns-in_err-scan_definition-clause-failed : goal.returns-in_err-scan_definition-clause-failed
+returns-in_err-scan_definition-clause-failed g c = on_error c.from_residual.result (failed_first (g.W.World.facts c.args.world.now) (g.W.World.names c.args.world.now) (g.met.W.World.is_world c.args.world.now)
+    c.args.definition.now _ _ c.in_err-scan_definition.ensures.failed)
 
 pub returns-in_err-visit-clause-failed : goal.returns-in_err-visit-clause-failed
 returns-in_err-visit-clause-failed g c = on_error c.from_residual-in_err-visit.result (failed_next (g.W.World.facts c.args.world.now) (g.W.World.names c.args.world.now) (g.met.W.World.is_world c.args.world.now)

@@ -20,7 +20,7 @@ err_of P (Err x) e is h = subst P (sym is) h
 pub returns-in_err-add-clause-err : goal.returns-in_err-add-clause-err
 returns-in_err-add-clause-err c =
     let there = path_at c.args.files.now c.loop-at.at c.index-files-at.result c.as_str.result.now c.loop-at-test.true c.index-files-at.is c.as_str.ensures.value in
-    err_of (IsFolderFault (paths_of c.args.files.now)) _ _ c.from_residual.ensures.1
+    err_of (IsFolderFault c.args.most (paths_of c.args.files.now)) _ _ c.from_residual.ensures.1
     (c.in_err-add.ensures.err (paths_of c.args.files.now) there c.loop-at.invariant)
 
 pub loop-at-preserved : goal.loop-at-preserved

@@ -6,7 +6,7 @@ use Rattle.gql_inputs.specs.Values.{value_of}
 use Rattle.gql_inputs.proofs.within.+within.Given as goal
 
 abbrev pub invariant-add_within_all-loop-item : goal.invariant-add_within_all-loop-item
-invariant-add_within_all-loop-item l = l.found.items ≡ l.initial.found.items ++ flat_map (λ (x : Literal). within l.scalar (value_of x)) (take l.item-index l.items)
+invariant-add_within_all-loop-item l = l.found.items ≡ l.initial.found.items ++ flat_map (λ (x : Literal). within l.scalar l.name (value_of x)) (take l.item-index l.items)
 
 abbrev pub invariant-add_within_fields-loop-field : goal.invariant-add_within_fields-loop-field
-invariant-add_within_fields-loop-field l = l.found.items ≡ l.initial.found.items ++ flat_map (λ (f : ObjectField). within l.scalar (value_of f.value)) (take l.field-index l.fields)
+invariant-add_within_fields-loop-field l = l.found.items ≡ l.initial.found.items ++ flat_map (λ (f : ObjectField). within l.scalar l.name (value_of f.value)) (take l.field-index l.fields)

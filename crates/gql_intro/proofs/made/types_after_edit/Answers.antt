@@ -14,10 +14,10 @@ returns-then-are_none-2 c = λ keeps undone is.
     let none_came : filter (is_only_in s before) names ≡ [] = search rules in
     let has_int : c.args.made.now.has_int ≡ c.args.has_int = search rules in
     let has_id : c.args.made.now.has_id ≡ c.args.has_id = search rules in
+    let has_float : c.args.made.now.has_float ≡ c.args.has_float = search rules in
     let same : c.in_ok-same.same ≡ c.args.made.now.types = search rules in
-    same ∙ is ∙ ap (λ i. in_order (filter (is_shown i c.args.made.now.has_id) (map name_of before.types))) has_int
-    ∙ ap (λ i. in_order (filter (is_shown c.args.has_int i) (map name_of before.types))) has_id
-    ∙ unchanged names before s keeps undone (is_shown c.args.has_int c.args.has_id) none_went none_came
+    same ∙ is ∙ (λ k. in_order (filter (is_shown (has_int k) (has_id k) (has_float k)) (map name_of before.types)))
+    ∙ unchanged names before s keeps undone (is_shown c.args.has_int c.args.has_id c.args.has_float) none_went none_came
 
 pub returns : goal.returns
 returns c = λ keeps undone is.
@@ -26,10 +26,10 @@ returns c = λ keeps undone is.
     let s = c.args.schema.now in
     let has_int : c.args.made.now.has_int ≡ c.args.has_int = search rules in
     let has_id : c.args.made.now.has_id ≡ c.args.has_id = search rules in
-    let shown = is_shown c.args.has_int c.args.has_id in
+    let has_float : c.args.made.now.has_float ≡ c.args.has_float = search rules in
+    let shown = is_shown c.args.has_int c.args.has_id c.args.has_float in
     let old_names : c.types.result.now ≡ in_order (filter shown (map name_of before.types)) =
-    c.types.ensures ∙ is ∙ ap (λ i. in_order (filter (is_shown i c.args.made.now.has_id) (map name_of before.types))) has_int
-    ∙ ap (λ i. in_order (filter (is_shown c.args.has_int i) (map name_of before.types))) has_id in
+    c.types.ensures ∙ is ∙ (λ k. in_order (filter (is_shown (has_int k) (has_id k) (has_float k)) (map name_of before.types))) in
     let gone : c.in_ok-gone-2.gone ≡ filter (is_only_in before s) names = search rules in
     let came : c.as_slice-4.result.now ≡ filter (is_only_in s before) names = search rules in
     let made : c.in_ok-names-4.names ≡ in_order (filter (is_kept c.in_ok-gone-2.gone) c.types.result.now ++ filter shown c.as_slice-4.result.now) = search rules in

@@ -7,17 +7,17 @@ use Rattle.gql_parse.specs.Documents.{document, executable}
 use Rattle.gql_parse.proofs.document.one_answer.Goals as goal
 
 pub returns-clause-document : goal.returns-clause-document
-returns-clause-document c file source a b h k = one_source (executable file) source a b h k
+returns-clause-document c limit file source a b h k = one_source (executable file) limit source a b h k
 
 pub returns-clause-fault : goal.returns-clause-fault
-returns-clause-fault c file source f g h k = one_fault_of (executable file) source f g h k
+returns-clause-fault c limit file source f g h k = one_fault_of (executable file) limit source f g h k
 
 pub returns-clause-apart : goal.returns-clause-apart
-returns-clause-apart c file source d f h k = tree_or_fault (executable file) source d f h k
+returns-clause-apart c limit file source d f h k = tree_or_fault (executable file) limit source d f h k
 
 reads_all : (file : List ℕ) (us : List Lexeme) (d : Document) (rest : List Lexeme) → (executable file).read us ≡ Ok (d, rest) → rest ≡ []
 unfolding executable
 reads_all file us d rest h = whole_rest (document file) us d rest h
 
 pub returns-clause-some : goal.returns-clause-some
-returns-clause-some c file source = some_answer_of (executable file) source (reads_all file)
+returns-clause-some c limit file source = some_answer_of (executable file) limit source (reads_all file)

@@ -11,7 +11,7 @@ use Rattle.gql_types.specs.Outlines.{edited_files}
 pub edited_index-requires : goal.edited_index-requires
 edited_index-requires c =
     let before = c.args.files.now in
-    let made : Files = record { schema = c.in_ok-changed.changed.schema; documents = c.edit_file.new.files } in
+    let made : Files = record c.in_ok-changed.changed { documents = c.edit_file.new.files } in
     let new = c.in_ok-edit_file.ensures ∙ ap (edited_files c.in_ok-changed.changed.documents c.args.name) c.in_ok-shared.ensures in
     let is = document_edited before c.in_ok-changed.changed c.args.name c.args.document _ c.in_ok-changed.ensures new in
     index_before c.args.known.now c.in_ok-are_same.are_same before made c.requires

@@ -18,7 +18,7 @@ use Rattle.gql_types.specs.Outlines.{edited_files}
 
 pub edited_schema-requires : goal.edited_schema-requires
 edited_schema-requires c =
-    let made : Files = record { schema = c.edit_file.new.files; documents = c.in_ok-changed.changed.documents } in
+    let made : Files = record c.in_ok-changed.changed { schema = c.edit_file.new.files } in
     let new = c.in_ok-edit_file.ensures ∙ ap (edited_files c.in_ok-changed.changed.schema c.args.name) c.in_ok-shared.ensures in
     let is = schema_edited c.args.files.now c.in_ok-changed.changed c.args.name c.args.document _ c.in_ok-changed.ensures new in
     let files = c.in_ok-edit_file.ensures ∙ ap (λ (f : Files). edited_files f.schema c.args.name c.in_ok-shared.shared) c.in_ok-changed.ensures
@@ -28,12 +28,13 @@ edited_schema-requires c =
     (ap (with_file Schema c.args.files.now c.args.name) c.as_ref.ensures.value ∙ is)
     c.in_ok-edited.ensures)
     files
+    (sym (ap (λ (f : Files). f.profile) c.in_ok-changed.ensures))
     (subst (λ (f : Files). DiffersAt c.args.name c.args.files.now f) is (differs_at c.args.files.now c.args.name c.args.document))
 
 pub returns : goal.returns
 returns c =
     let before = c.args.files.now in
-    let made : Files = record { schema = c.edit_file.new.files; documents = c.in_ok-changed.changed.documents } in
+    let made : Files = record c.in_ok-changed.changed { schema = c.edit_file.new.files } in
     let new = c.in_ok-edit_file.ensures ∙ ap (edited_files c.in_ok-changed.changed.schema c.args.name) c.in_ok-shared.ensures in
     let is = schema_edited before c.in_ok-changed.changed c.args.name c.args.document _ c.in_ok-changed.ensures new in
     let edit : IsSchemaEdit c.in_ok-edited.edited before made = subst (λ (f : Files). IsSchemaEdit c.in_ok-edited.edited before f) (ap (with_file Schema before c.args.name) c.as_ref.ensures.value ∙ is) c.in_ok-edited.ensures in

@@ -1,7 +1,7 @@
 use Rattle.std.proofs.Common.{◌≡◌, ◌≤◌, ◌∙◌, refl, sym, ap, subst, length, None}
 use Rattle.gql_ast.specs.FileMaps.{file_named}
-use Rattle.gql_registry.specs.Sides.{files_on}
-use Rattle.gql_registry.specs.State.{most_files}
+use Rattle.gql_ast.specs.declared.files.Files.{Files}
+use Rattle.gql_registry.specs.Sides.{files_on, limit_on}
 use Rattle.gql_registry.specs.Working.{IsFileRefusal}
 use Rattle.gql_registry.proofs.FirstRefusals.{first_files_full, put_accepted, no_room, room}
 use Rattle.gql_registry.proofs.OneEdit.{apart_on}
@@ -10,15 +10,15 @@ use Rattle.gql_registry.proofs.loading.put_file.Goals as goal
 
 pub returns-in_err-document-clause-err : goal.returns-in_err-document-clause-err
 returns-in_err-document-clause-err c =
-    err_of (IsFileRefusal c.args.side c.args.name.now c.args.bytes.now c.args.files.now) _ _ c.from_residual.ensures.1 (λ s same time. c.in_err-document.ensures.err s None time)
+    err_of (IsFileRefusal c.args.side c.args.name.now c.args.bytes.now c.args.files.now) _ _ c.from_residual.ensures.1 (λ s same time. c.in_err-document.ensures.err s None (ap (λ (f : Files). f.profile) same) time)
 
 pub returns-then-not-has_room-clause-err : goal.returns-then-not-has_room-clause-err
 returns-then-not-has_room-clause-err c = λ s same time.
     let at : c.files_on.result.now ≡ files_on c.args.side s.files = c.files_on.ensures ∙ ap (files_on c.args.side) (sym same) in
-    let full = no_room (file_named c.files_on.result.now c.args.name.now) (length c.files_on.result.now) (sym c.if-not-has_room.ensures) in (
-      first_files_full s None c.args.side c.args.name.now c.args.bytes.now tt time.left c.in_ok-document.ensures.read.short c.in_ok-document.ensures.read.text
+    let full = no_room (file_named c.files_on.result.now c.args.name.now) (length c.files_on.result.now) c.args.files.now.profile.limits.files (sym c.if-not-has_room.ensures) in (
+      first_files_full s None c.args.side c.args.name.now c.args.bytes.now tt time.left (subst (λ (f : Files). length c.args.bytes.now ≤ limit_on f.profile c.args.side) (sym same) c.in_ok-document.ensures.read.short) c.in_ok-document.ensures.read.text
           (λ f bad. apart_on c.one_answer.ensures.apart c.one_document_answer.ensures.apart c.args.side c.args.name.now c.args.bytes.now _ f c.in_ok-document.ensures.read.file bad)
-          (subst (λ fs. file_named fs c.args.name.now ≡ None) at full.0) (subst (λ fs. most_files ≤ length fs) at full.1),
+          (subst (λ fs. file_named fs c.args.name.now ≡ None) at full.0) (subst (λ (f : Files). f.profile.limits.files ≤ length (files_on c.args.side s.files)) (sym same) (subst (λ fs. c.args.files.now.profile.limits.files ≤ length fs) at full.1)),
       refl,
     )
 
@@ -33,8 +33,9 @@ returns-clause-put c = record {
   placed = c.in_ok-document.ensures.read.placed;
   accepted = λ s same time.
       let at : c.files_on.result.now ≡ files_on c.args.side s.files = c.files_on.ensures ∙ ap (files_on c.args.side) (sym same) in
-      put_accepted s None c.args.side c.args.name.now c.args.bytes.now tt time.left c.in_ok-document.ensures.read.short c.in_ok-document.ensures.read.text
+      put_accepted s None c.args.side c.args.name.now c.args.bytes.now tt time.left (subst (λ (f : Files). length c.args.bytes.now ≤ limit_on f.profile c.args.side) (sym same) c.in_ok-document.ensures.read.short) c.in_ok-document.ensures.read.text
       (λ f bad. apart_on c.one_answer.ensures.apart c.one_document_answer.ensures.apart c.args.side c.args.name.now c.args.bytes.now _ f c.in_ok-document.ensures.read.file bad)
-      (subst (λ fs. file_named fs c.args.name.now ≡ None → most_files ≤ length fs → ⊥) at (room (file_named c.files_on.result.now c.args.name.now) (length c.files_on.result.now) (sym c.if-not-has_room.ensures)));
+      (subst (λ (f : Files). file_named (files_on c.args.side s.files) c.args.name.now ≡ None → f.profile.limits.files ≤ length (files_on c.args.side s.files) → ⊥) (sym same)
+      (subst (λ fs. file_named fs c.args.name.now ≡ None → c.args.files.now.profile.limits.files ≤ length fs → ⊥) at (room (file_named c.files_on.result.now c.args.name.now) (length c.files_on.result.now) c.args.files.now.profile.limits.files (sym c.if-not-has_room.ensures))));
   is = rw c.copy.ensures at c.in_ok-put_on.ensures;
 }

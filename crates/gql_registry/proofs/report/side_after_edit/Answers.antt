@@ -12,7 +12,7 @@ pub assemble_after_edit-requires-clause-others : goal.assemble_after_edit-requir
 assemble_after_edit-requires-clause-others c = subst (λ s. KeepsOthers c.args.edited.now s (schema_of c.args.files.now)) (sym c.requires.side_of.schema) c.requires.edit.keeps
 
 pub assemble_after_edit-requires-clause-before : goal.assemble_after_edit-requires-clause-before
-assemble_after_edit-requires-clause-before c = (c.requires.before, c.requires.side_of.schema, c.requires.side_of.outline, c.requires.files)
+assemble_after_edit-requires-clause-before c = (c.requires.before, c.requires.side_of.schema, c.requires.side_of.outline, c.requires.files, c.requires.profile)
 
 pub after_edit-requires : goal.after_edit-requires
 after_edit-requires c =

@@ -25,5 +25,6 @@ returns c = λ names old among before others change.
           (λ is. before.joint.0 (c.keeps_joint-keeps_joint.ensures.sound is)) c.keeps_joint-keeps_joint.ensures.directives;
       own = ap₂ (λ ts ds. type_faults_on s ts ds) own defaulted
           ∙ kept_types names (schema_of old) s c.args.change.now sound by_defaults
-          others change before.sound.0 c.keeps_defaults-keeps_defaults.ensures.sound c.keeps_defaults-keeps_defaults.ensures.inputs;
+          others change before.sound.0 c.keeps_defaults-keeps_defaults.ensures.sound
+          c.keeps_defaults-keeps_defaults.ensures.floats c.keeps_defaults-keeps_defaults.ensures.inputs;
     }

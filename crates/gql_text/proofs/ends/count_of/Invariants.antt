@@ -6,7 +6,7 @@ use Rattle.gql_text.proofs.ends.count_of.Given as goal
 abbrev pub invariant-stretches : goal.invariant-stretches
 invariant-stretches l = record {
   within : l.start ≤ length l.source;
-  short : length l.source ≤ 65536;
+  short : length l.source ≤ 16777216;
   count : l.total ≡ count_by (λ b. b == l.wanted) (take l.start l.source);
 }
 

@@ -18,7 +18,7 @@ edited_types-requires-clause-placed c = λ once.
     let outlines = outlines_after was.0 c.args.files.now c.args.name.now (option_copied c.args.document) c.args.outline.now c.in_ok-after.after.files was.2 was.3
     (c.in_ok-after.ensures.files ∙ ap (edited_files c.args.outline.now.files c.args.name.now) c.in_ok-file.ensures) in
     subst (λ s. ArePlaced c.args.name.now (option_copied c.args.document) c.args.files.now c.args.outline.now c.in_ok-after.after s) (sym c.in_ok-edit.ensures.schema)
-    (placed was.0 c.args.files.now c.args.name.now (option_copied c.args.document) c.args.before.now c.args.outline.now c.in_ok-after.after was.1 was.2 was.3 outlines once)
+    (placed was.0 c.args.files.now c.args.name.now (option_copied c.args.document) c.args.before.now c.args.outline.now c.in_ok-after.after was.1 was.2 was.3 was.4 outlines once)
 
 pub schema_with-requires : goal.schema_with-requires
 schema_with-requires c =

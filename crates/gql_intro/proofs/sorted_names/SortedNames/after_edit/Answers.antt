@@ -15,7 +15,7 @@ edited_runs-requires-clause-went c =
 
 pub edited_runs-requires-clause-came : goal.edited_runs-requires-clause-came
 edited_runs-requires-clause-came c =
-    let shown = filter (is_shown c.args.has_int c.args.has_id) c.args.came.now in
+    let shown = filter (is_shown c.args.has_int c.args.has_id c.args.has_float) c.args.came.now in
     let is : c.as_slice-3.result.now ≡ in_order shown = search rules in
     subst AreSorted (sym is) (sorted_in_order shown)
 
@@ -33,7 +33,7 @@ invariant_of-result c =
 pub returns : goal.returns
 returns c =
     let kept = filter (is_kept c.args.gone.now) (names_of c.runs-runs.result.now) in
-    let shown = filter (is_shown c.args.has_int c.args.has_id) c.args.came.now in
+    let shown = filter (is_shown c.args.has_int c.args.has_id c.args.has_float) c.args.came.now in
     let is : c.in_ok-runs.runs ≡ in_order (kept ++ c.as_slice-3.result.now) = search rules in
     let came : c.as_slice-3.result.now ≡ in_order shown = search rules in
     let names : names_of c.runs-runs.result.now ≡ c.args.self.now = search rules in

@@ -10,7 +10,7 @@ returns c = λ forth back.
     let kinds = c.in_ok-new.ensures ∙ c.in_ok-kinds.ensures ∙ ap (filter (has_other_kind s t)) c.as_slice.ensures in
     record {
       kinds = λ q gone. same_kinds c.args.edited.now s t forth back q (subst (λ xs. is_among xs q ≡ false) kinds gone);
-      inputs = λ q gone. same_inputs c.args.edited.now s t forth back c.in_ok-inputs.inputs.items
+      inputs = λ same q gone. same_inputs c.args.edited.now s t forth back (c.has_other_floats.ensures same) c.in_ok-inputs.inputs.items
           (subst (λ ns. NamesInputs s t ns c.in_ok-inputs.inputs.items) c.as_slice-2.ensures c.in_ok-inputs.ensures) q (subst (λ xs. is_among xs q ≡ false) c.in_ok-new-2.ensures gone);
       directives = λ e. sym c.directives.ensures ∙ c.has_same_directives.ensures (turned c.has_same_directives.result e) ∙ c.directives-2.ensures;
       mutation_root = λ e. c.has_same_mutation_root.ensures (turned c.has_same_mutation_root.result e);

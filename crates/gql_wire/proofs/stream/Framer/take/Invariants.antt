@@ -5,7 +5,8 @@ use Rattle.gql_wire.proofs.stream.Framer.take.Given as goal
 abbrev pub invariant-parts : goal.invariant-parts
 invariant-parts l = record {
   within : l.taken ≤ length l.piece;
-  same : l.self ≡ skip_blank (l.initial.self ++ take l.taken l.piece);
+  limit : l.self.limit ≡ l.initial.self.limit;
+  same : l.self.bytes ≡ skip_blank (l.initial.self.bytes ++ take l.taken l.piece);
 }
 
 abbrev pub decreases-parts : goal.decreases-parts
