@@ -1,10 +1,10 @@
 -- Doubles that are equal have the same print.
 use Rattle.std.proofs.Common.{◌≡◌, Bool, true, false, cond, T, refl, sym, ap, ◌∙◌}
-use Rattle.std.specs.Prelude.{is_nan, to_bits}
+use Rattle.std.specs.Prelude.{to_bits}
 use Rattle.std.specs.Bool.{passes}
 use Rattle.std.specs.Float.{Float, binary64, float_key, merge_zeros}
 use Rattle.std.specs.Float.Cmp.{same_key}
-use Rattle.std.specs.Float.Ieee.{nan, inf, fin, eq, lt, top}
+use Rattle.std.specs.Float.Ieee.{nan, inf, fin, eq, is_nan, lt, top}
 use Rattle.std.specs.Ordering.{is_eq, nan_last_cmp}
 use Rattle.std.proofs.lemmas.Float.{eq-not_lt, eq_flip}
 use Rattle.gql_steps.specs.Columns.{print_of_real}

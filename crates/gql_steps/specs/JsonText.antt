@@ -1,6 +1,6 @@
 -- The text of data in JSON, without blanks (GraphQL 7.1): that of `serde_json`, which has none for
 -- a double, with the text of `gql_numbers` for that.
-use Rattle.std.specs.Prelude.{ℕ, List, ◌∷◌, ◌++◌, Bool, true, false, decimal}
+use Rattle.std.specs.Prelude.{ℕ, List, [], ◌∷◌, ◌++◌, Bool, true, false, decimal}
 use Rattle.std.specs.Fmt.{signed_decimal}
 use Rattle.gql_numbers.specs.Doubles.{double_text}
 use Rattle.json.specs.Print.{quoted, token_text}
