@@ -85,10 +85,10 @@ fn texts_of(
 
 /// The profile of a command on a folder; `october-2021` if none is named.
 fn profile_in(matches: &ArgMatches<'_>) -> Profile {
-    matches
-        .get_str("profile")
-        .and_then(profile_named)
-        .unwrap_or(Profile::october_2021())
+    match matches.get_str("profile") {
+        Some(name) => profile_named(name).unwrap_or(Profile::october_2021()),
+        None => Profile::october_2021(),
+    }
 }
 
 /// What a push reads, and where it puts what it reads.
