@@ -23,6 +23,6 @@ returns-in_ok-data-in-Data-clause-put c stored =
     let old = state_in stored c.args.self.now in
     let found = c.in_ok-data-in-Data.data in
     subst (λ (e : Edit). Puts old e (state_over c.args.self.now.files (data_after stored c.set_data.new.new_data) c.in_ok-self.field-0)) (sym (ap edit_of c.in-Data.is))
-      (subst (λ (d : Option Value). Puts old (put_data c.in-Data.bytes.now) (state_over c.args.self.now.files (data_after stored d) c.in_ok-self.field-0)) (sym c.set_data.ensures)
-        (data_puts c.args.self.now.files (data_after stored c.args.self.now.new_data) c.args.self.now.revision c.in_ok-self.field-0 c.in-Data.bytes.now (view found)
-          c.in_ok-self.ensures.next c.in_ok-self.ensures.left c.in_ok-data-in-Data.ensures.read.0 c.in_ok-data-in-Data.ensures.read.1))
+    (subst (λ (d : Option Value). Puts old (put_data c.in-Data.bytes.now) (state_over c.args.self.now.files (data_after stored d) c.in_ok-self.field-0)) (sym c.set_data.ensures)
+    (data_puts c.args.self.now.files (data_after stored c.args.self.now.new_data) c.args.self.now.revision c.in_ok-self.field-0 c.in-Data.bytes.now (view found)
+    c.in_ok-self.ensures.next c.in_ok-self.ensures.left c.in_ok-data-in-Data.ensures.read.0 c.in_ok-data-in-Data.ensures.read.1))
