@@ -1,26 +1,16 @@
 """One large schema file and the same in several: large.py PROGRAM TYPES.. See large.sh."""
 import os
-import subprocess
 import sys
 import tempfile
 
+from processes import measured, request
+from schemas import Operations, Schema
+
 OPERATIONS = 400
 EDITS = 10
-
-
-def type_text(at, types):
-    """A type as those of large schemas: a description, arguments, defaults, references to other types."""
-    lines = ['"""', "The thing of number %d, and what is known of it." % at, '"""', "type T%d {" % at, "  id: ID!"]
-    for field in range(12):
-        other = (at * 7 + field * 13 + 1) % types
-        lines += ['  "what is known of it by %d"' % field,
-                  "  f%d(first: Int = 10, above: Float = %d.5, names: [String!]): %s"
-                  % (field, field, ["String", "Float!", "[T%d!]!" % other, "T%d" % other][field % 4])]
-    return "\n".join(lines + ["}", ""])
-
-
-def texts(types):
-    return ["type Query { t(id: ID!): T0 all: [T1!]! }\n"] + [type_text(at, types) for at in range(types)]
+RUNS = 3
+HERE = os.path.dirname(os.path.abspath(__file__))
+INTROSPECTION = os.path.join(HERE, "../crates/tables_service/data/introspection/query.graphql")
 
 
 def split(parts, most):
@@ -33,46 +23,49 @@ def split(parts, most):
     return files
 
 
-def request(target, text):
-    return ("PUT %s HTTP/1.1\r\nContent-Length: %d\r\n\r\n%s" % (target, len(text), text)).encode()
-
-
-def measured(words, given=b""):
-    """The processor time in milliseconds and the memory in MB of a command."""
-    with tempfile.TemporaryFile() as source:
-        source.write(given)
-        source.seek(0)
-        process = subprocess.Popen(words, stdin=source, stdout=subprocess.DEVNULL)
-        _, _, usage = os.wait4(process.pid, 0)
-    return (usage.ru_utime + usage.ru_stime) * 1000, usage.ru_maxrss / 1024
-
-
-def report(program, types, files, name):
+def check(program, files):
+    """The time and the memory of a check of a folder with these schema files."""
     with tempfile.TemporaryDirectory() as folder:
         os.mkdir(folder + "/schema")
         for at, text in enumerate(files):
             with open("%s/schema/s%d.graphql" % (folder, at), "w") as out:
                 out.write(text)
-        check = measured([program, "check", folder])
+        return measured([program, "check", folder])
+
+
+def added(pipe, before, more, count):
+    """The time of each of so many requests, after others; and the memory of all."""
+    first = measured(pipe, b"".join(before))
+    both = measured(pipe, b"".join(before + more))
+    return (both[0] - first[0]) / count, both[1]
+
+
+def report(program, schema, files, name):
     pipe = [program, "pipe", "--profile", "october-2021"]
-    puts = [request("/schema/s%d" % at, text) for at, text in enumerate(files)]
+    puts = [request("PUT", "/schema/s%d" % at, text) for at, text in enumerate(files)]
+    client = Operations(schema)
+    operations = [request("PUT", "/documents/d%d" % at, client.operation("Operation%d" % at, 400))
+                  for at in range(OPERATIONS)]
+    edits = [request("PUT", "/schema/s0", files[0] + "scalar Edit%d\n" % at) for at in range(EDITS)]
+    with open(INTROSPECTION) as source:
+        asked = [request("PUT", "/documents/introspection", source.read())]
+    run = request("POST", "/run", '{"operationName":"IntrospectionQuery"}')
+    checked = check(program, files)
     load = measured(pipe, b"".join(puts))
-    operations = [request("/documents/d%d" % at, "query Q%d { t(id: 1) { id f0 f3 { id } } all { f1 f%d } }"
-                          % (at, (at % 3) * 4 + 1)) for at in range(OPERATIONS)]
-    stored = measured(pipe, b"".join(puts + operations))
-    edits = [request("/schema/s0", files[0] + "scalar Edit%d\n" % at) for at in range(EDITS)]
-    edited = measured(pipe, b"".join(puts + operations + edits))
-    print("%5d types, %9d bytes, %-9s check %6.0f ms %4.0f MB   load %6.0f ms   an edit %6.1f ms %4.0f MB"
-          % (types, sum(map(len, files)), name, *check, load[0], (edited[0] - stored[0]) / EDITS, edited[1]))
+    edit = added(pipe, puts + operations, edits, EDITS)
+    answer = added(pipe, puts + asked, [run] * RUNS, RUNS)
+    print("%5d types, %9d bytes, %-9s check %4.0f ms %4.0f MB   load %4.0f ms   an edit %5.1f ms %4.0f MB"
+          "   introspection %4.0f ms %4.0f MB"
+          % (len(schema.definitions), sum(map(len, files)), name, *checked, load[0], *edit, *answer))
 
 
 def main():
     program = sys.argv[1]
     for types in map(int, sys.argv[2:]):
-        parts = texts(types)
-        several = split(parts, 60000)
-        report(program, types, several, "%d files:" % len(several))
-        report(program, types, split(parts, 4000000), "one file:")
+        schema = Schema(types)
+        several = split(schema.definitions, 60000)
+        report(program, schema, several, "%d files:" % len(several))
+        report(program, schema, split(schema.definitions, 4000000), "one file:")
 
 
 if __name__ == "__main__":

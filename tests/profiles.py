@@ -10,10 +10,6 @@ import tempfile
 ROWS = os.path.join(os.path.dirname(os.path.abspath(__file__)), "profiles.txt")
 PROFILES = ("whole-numbers", "october-2021")
 
-# Whether october-2021 runs operations. Until it does, a run that has an answer in a row is refused by 213,
-# and data with other numbers than integers are refused by 207.
-RUNS = False
-
 
 # ---- requests and answers
 
@@ -127,8 +123,6 @@ def are_faults(found, wanted, others):
 
 def expected_data(row, profile):
     """200, or the number of the refusal of the data of a row."""
-    if not RUNS and row.get("whole-numbers data"):
-        return 207
     return int(row.get(profile + " data") or 200)
 
 
@@ -138,8 +132,6 @@ def expected_run(row, profile):
     if text is None:
         return None
     number, _, reply = text.partition(" ")
-    if profile == "october-2021" and not RUNS and number == "200":
-        return 213, ""
     return int(number), reply
 
 
@@ -268,7 +260,7 @@ def values_of_answer(program, profile):
     requests = [request("PUT", "/schema/s%d" % at, "\n".join(part)) for at, part in enumerate(parts)]
     requests += [request("PUT", "/documents/d", INTROSPECTION), request("POST", "/run", "{}")]
     found = pipe(program, profile, requests)
-    last = of_profile(profile, 210, 200 if RUNS else 213)
+    last = of_profile(profile, 210, 200)
     if [code_of(answer) for answer in found] != [200] * len(parts) + [200, last]:
         yield "introspection", last, [code_of(answer) for answer in found]
     elif last == 200:

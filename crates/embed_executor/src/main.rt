@@ -15,6 +15,9 @@ use serde_json::{Map, Value};
 use std::alloc::{AllocError, Global};
 use std::io;
 
+/// An answer of more values is refused.
+const MOST_VALUES: usize = 100_000;
+
 /// Puts a schema file and a document file.
 fn put_both(
     alloc: Global,
@@ -59,6 +62,7 @@ fn answer(alloc: Global, files: &Files, data: &Value) -> Result<Option<Vec<u8>>,
                 operation,
                 &no_variables,
                 data,
+                MOST_VALUES,
             )?;
             return Ok(Some(reply_text(alloc, &outcome)?));
         }

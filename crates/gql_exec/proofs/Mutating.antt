@@ -14,7 +14,6 @@ use Rattle.gql_steps.specs.Parts.{Part, after_comma, all, counted, followed_by, 
 use Rattle.gql_steps.specs.Plans.{Basis, IsPlan, is_met, types_of}
 use Rattle.gql_steps.specs.Replies.{Path, key, Reply}
 use Rattle.gql_steps.specs.Replies as reply
-use Rattle.gql_steps.specs.Requests.{most_values}
 use Rattle.gql_exec.specs.RootParts.{IsAddition, Root, added_field, effect_in, effects_in, root_called, root_field, root_part}
 use Rattle.gql_steps.specs.States.{Done, Executes, path_of}
 use Rattle.gql_steps.specs.Tables.{Has, Pair, StandFor, called_of, fields_at, pairs_of, planned_of}
@@ -101,12 +100,12 @@ module _ (g : Basis) (table : Table) (k : ℕ) (t : List ℕ) (xs : List FileSel
         (on_root_entry (Ok e) does)
 
     pub root_heavy : (stop : ExecRefusal) → ((qs : List Pair) → StandFor g (fields_at table.entries.items k) qs → Executes (root_part (types_of g) r qs (path_of s)) (Err stop) s u)
-        → s.left ≡ most_values → stop ≡ TooHeavy → most_values < (execute_root (types_of g) r.appending x t r.stored [] r.initial).weight
-    root_heavy stop does left heavy =
+        → stop ≡ TooHeavy → s.left < (execute_root (types_of g) r.appending x t r.stored [] r.initial).weight
+    root_heavy stop does heavy =
         let over : s.left < (value_part (execute_root (types_of g) r.appending x t r.stored [] r.initial)).weight =
         subst (λ p. s.left < (value_part (execute_root (types_of g) r.appending x t r.stored p r.initial)).weight) (ap (map segment_of) start)
         (on_root_entry (Err stop) does heavy) in
-        omega (arith, over, left)
+        omega (arith, over)
 
 -- ---- values that are added
 

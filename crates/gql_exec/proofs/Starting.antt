@@ -5,7 +5,6 @@ use Rattle.serde_json.specs.Data.{Data}
 use Rattle.gql_steps.specs.Execution.{Plan, PlannedField, answer, execute, stored}
 use Rattle.gql_steps.specs.Outcomes.{segment_of}
 use Rattle.gql_steps.specs.Plans.{Basis, IsPlan, is_met, types_of}
-use Rattle.gql_steps.specs.Requests.{most_values}
 use Rattle.gql_steps.specs.States.{Done, Executes, path_of}
 use Rattle.gql_steps.specs.Tables.{Has, StandFor, fields_at}
 use Rattle.gql_steps.specs.Texts.{value_part}
@@ -27,9 +26,9 @@ module _ (g : Basis) (table : Table) (k : ℕ) (root : List ℕ) (xs : List File
       (on_entry g table k root root xs x (stored d) (Ok e) s u has met is does)
 
   pub sets_heavy : (stop : ExecRefusal) → ((qs : List (PlannedField × Plan)) → StandFor g (fields_at table.entries.items k) qs → Executes (object_part (types_of g) (stored d) qs (path_of s)) (Err stop) s u)
-      → s.left ≡ most_values → stop ≡ TooHeavy → most_values < (answer (types_of g) x root d).weight
-  sets_heavy stop does left heavy =
+      → stop ≡ TooHeavy → s.left < (answer (types_of g) x root d).weight
+  sets_heavy stop does heavy =
       let over : s.left < (value_part (execute (types_of g) x root [] (stored d))).weight =
       subst (λ p. s.left < (value_part (execute (types_of g) x root p (stored d))).weight) (ap (map segment_of) start)
       (on_entry g table k root root xs x (stored d) (Err stop) s u has met is does heavy) in
-      omega (arith, over, left)
+      omega (arith, over)

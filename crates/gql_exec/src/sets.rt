@@ -9,7 +9,6 @@ ghost use Rattle.gql_steps.specs.Objects.{basis};
 ghost use Rattle.gql_steps.specs.Outcomes.{error_of, outcome_of};
 ghost use Rattle.gql_steps.specs.Plans.{IsPlan, is_met, types_of};
 ghost use Rattle.gql_steps.specs.Requests as spec;
-ghost use Rattle.gql_steps.specs.Requests.{most_values};
 ghost use Rattle.gql_exec.specs.RootParts.{seen};
 ghost use Rattle.gql_steps.specs.Runs.{Finishes, IsOutcomeOf, came_to};
 ghost use Rattle.gql_steps.specs.States as states;
@@ -28,9 +27,6 @@ use gql_steps::table::Table;
 use gql_stored::Effect;
 use serde_json::Value;
 use std::alloc::{AllocError, Global};
-
-/// The greatest number of values that an execution completes.
-const MOST_VALUES: usize = 100_000;
 
 /// The room for the text of a short answer.
 const ROOM: usize = 256;
@@ -104,23 +100,24 @@ fn finish<'d>(
     }
 }
 
-/// Executes selection sets, taken as one, on the initial value.
+/// Executes selection sets, taken as one, on the initial value. At most `most` values are
+/// completed.
 pub fn execute_sets<'d>(
     alloc: Global,
     setting: &Setting<'d, '_>,
     root: &str,
     sets: &[SelectionSet<'d>],
     initial: &Value,
+    most: usize,
 ) -> Result<Outcome<'d>, ExecRefusal>
     ensures outcome { IfOk result (λ o. is_met (basis setting.now) root.now root.now ≡ true
         → (x : Plan) → IsPlan (basis setting.now) root.now (all_selections sets.now) x
-        → IsOutcomeOf (outcome_of o)
+        → IsOutcomeOf most (outcome_of o)
         (answer (types_of (basis setting.now)) x root.now (view initial.now))) }
     ensures heavy { IfErr result (λ e. e ≡ ExecRefusal.TooHeavy
         → is_met (basis setting.now) root.now root.now ≡ true
         → (x : Plan) → IsPlan (basis setting.now) root.now (all_selections sets.now) x
-        → most_values
-        < (answer (types_of (basis setting.now)) x root.now (view initial.now)).weight) }
+        → most < (answer (types_of (basis setting.now)) x root.now (view initial.now)).weight) }
 {
     let mut table = Table::new(alloc);
     let entry = table.add_sets(alloc, setting, key_of(root, sets), root, sets)?;
@@ -128,30 +125,32 @@ pub fn execute_sets<'d>(
         out: Vec::with_capacity(alloc, ROOM)?,
         errors: Vec::new(alloc),
         path: Vec::new(alloc),
-        left: MOST_VALUES,
+        left: most,
         raised: false,
     };
     let ended = execute_object(alloc, setting, &mut table, entry, initial, &mut run)?;
     finish(alloc, ended, run, Vec::new(alloc))
 }
 
-/// Executes selection sets, taken as one, as those of a mutation.
+/// Executes selection sets, taken as one, as those of a mutation. At most `most` values are
+/// completed.
 pub fn mutate_sets<'d>(
     alloc: Global,
     setting: &Setting<'d, '_>,
     root: Root<'_>,
     sets: &[SelectionSet<'d>],
+    most: usize,
 ) -> Result<Outcome<'d>, ExecRefusal>
     ensures outcome { IfOk result (λ o. is_met (basis setting.now) root.entry.of_type.now
         root.entry.of_type.now ≡ true
         → (x : Plan) → IsPlan (basis setting.now) root.entry.of_type.now (all_selections sets.now) x
-        → IsOutcomeOf (outcome_of o) (mutation_answer (types_of (basis setting.now))
+        → IsOutcomeOf most (outcome_of o) (mutation_answer (types_of (basis setting.now))
         (append_of setting.now.context.schema.now root.entry.of_type.now) x root.entry.of_type.now
         (view root.entry.stored.now) (view root.entry.initial.now))) }
     ensures heavy { IfErr result (λ e. e ≡ ExecRefusal.TooHeavy
         → is_met (basis setting.now) root.entry.of_type.now root.entry.of_type.now ≡ true
         → (x : Plan) → IsPlan (basis setting.now) root.entry.of_type.now (all_selections sets.now) x
-        → most_values < (mutation_answer (types_of (basis setting.now))
+        → most < (mutation_answer (types_of (basis setting.now))
         (append_of setting.now.context.schema.now root.entry.of_type.now) x root.entry.of_type.now
         (view root.entry.stored.now) (view root.entry.initial.now)).weight) }
 {
@@ -162,7 +161,7 @@ pub fn mutate_sets<'d>(
         out: Vec::with_capacity(alloc, ROOM)?,
         errors: Vec::new(alloc),
         path: Vec::new(alloc),
-        left: MOST_VALUES,
+        left: most,
         raised: false,
     };
     let mut effects = Vec::new(alloc);

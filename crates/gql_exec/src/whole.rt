@@ -12,7 +12,7 @@ ghost use Rattle.gql_steps.specs.Objects.{basis};
 ghost use Rattle.gql_steps.specs.Outcomes.{outcome_of};
 ghost use Rattle.gql_steps.specs.Plans.{IsPlan, is_met, types_of};
 ghost use Rattle.gql_steps.specs.Requests as spec;
-ghost use Rattle.gql_steps.specs.Requests.{IsKeptOf, IsNoOperation, IsOutcome, IsTooHeavy, most_values, request_of};
+ghost use Rattle.gql_steps.specs.Requests.{IsKeptOf, IsNoOperation, IsOutcome, IsTooHeavy, request_of};
 ghost use Rattle.gql_steps.specs.Runs.{Answering, IsOutcomeOf, IsRefused, request};
 
 use crate::mutation::Root;
@@ -61,22 +61,23 @@ fn execute_query<'d>(
     root: &str,
     sets: &[SelectionSet<'d>],
     stored: &Value,
+    most: usize,
 ) -> Result<Outcome<'d>, ExecRefusal>
     ensures outcome { IfOk result (λ o. is_met (basis setting.now) root.now root.now ≡ true
         → (x : Plan) → IsPlan (basis setting.now) root.now (all_selections sets.now) x
-        → IsOutcomeOf (outcome_of o) (answer (types_of (basis setting.now)) x root.now
+        → IsOutcomeOf most (outcome_of o) (answer (types_of (basis setting.now)) x root.now
         (spec.initial_value kind (view stored.now)))) }
     ensures heavy { IfErr result (λ e. e ≡ ExecRefusal.TooHeavy
         → is_met (basis setting.now) root.now root.now ≡ true
         → (x : Plan) → IsPlan (basis setting.now) root.now (all_selections sets.now) x
-        → most_values < (answer (types_of (basis setting.now)) x root.now
+        → most < (answer (types_of (basis setting.now)) x root.now
         (spec.initial_value kind (view stored.now))).weight) }
 {
     match stored.get(root_member(kind)) {
-        Some(initial) => execute_sets(alloc, setting, root, sets, initial),
+        Some(initial) => execute_sets(alloc, setting, root, sets, initial, most),
         None => {
             let initial = Value::from(Map::new(alloc));
-            execute_sets(alloc, setting, root, sets, &initial)
+            execute_sets(alloc, setting, root, sets, &initial, most)
         }
     }
 }
@@ -88,15 +89,16 @@ fn execute_mutation<'d>(
     root: &str,
     sets: &[SelectionSet<'d>],
     stored: &Value,
+    most: usize,
 ) -> Result<Outcome<'d>, ExecRefusal>
     ensures outcome { IfOk result (λ o. is_met (basis setting.now) root.now root.now ≡ true
         → (x : Plan) → IsPlan (basis setting.now) root.now (all_selections sets.now) x
-        → IsOutcomeOf (outcome_of o) (spec.answer_for operation.Mutation (basis setting.now) x
+        → IsOutcomeOf most (outcome_of o) (spec.answer_for operation.Mutation (basis setting.now) x
         root.now (view stored.now))) }
     ensures heavy { IfErr result (λ e. e ≡ ExecRefusal.TooHeavy
         → is_met (basis setting.now) root.now root.now ≡ true
         → (x : Plan) → IsPlan (basis setting.now) root.now (all_selections sets.now) x
-        → most_values < (spec.answer_for operation.Mutation (basis setting.now) x
+        → most < (spec.answer_for operation.Mutation (basis setting.now) x
         root.now (view stored.now)).weight) }
 {
     let empty = Value::from(Map::new(alloc));
@@ -105,7 +107,7 @@ fn execute_mutation<'d>(
         stored,
         initial: stored.get("mutation").unwrap_or(&empty),
     };
-    mutate_sets(alloc, setting, root, sets)
+    mutate_sets(alloc, setting, root, sets, most)
 }
 
 /// Executes an operation with the values of its variables.
@@ -115,12 +117,13 @@ fn execute_operation<'d>(
     file: &'d FileName,
     operation: &'d Operation,
     stored: &Value,
+    most: usize,
 ) -> Result<Outcome<'d>, ExecRefusal>
     ensures outcome { IfOk result (λ o. Answering (basis setting.now) file.now operation.now
-        (view stored.now) (λ a. IsOutcomeOf (outcome_of o) a)) }
+        (view stored.now) (λ a. IsOutcomeOf most (outcome_of o) a)) }
     ensures heavy { IfErr result (λ e. e ≡ ExecRefusal.TooHeavy
         → Answering (basis setting.now) file.now operation.now (view stored.now)
-        (λ a. most_values < a.weight)) }
+        (λ a. most < a.weight)) }
 {
     let Some(root) = setting.context.schema.root(operation.kind) else {
         return Ok(nothing(alloc));
@@ -131,9 +134,9 @@ fn execute_operation<'d>(
         selections: operation.selections.as_slice(),
     }];
     match operation.kind {
-        OperationKind::Mutation => execute_mutation(alloc, setting, root, &sets, stored),
+        OperationKind::Mutation => execute_mutation(alloc, setting, root, &sets, stored, most),
         OperationKind::Query | OperationKind::Subscription => {
-            execute_query(alloc, setting, operation.kind, root, &sets, stored)
+            execute_query(alloc, setting, operation.kind, root, &sets, stored, most)
         }
     }
 }
@@ -198,11 +201,14 @@ fn execute_request<'d>(
     operation: &'d Operation,
     variables: &Value,
     stored: &Value,
+    most: usize,
 ) -> Result<Outcome<'d>, ExecRefusal>
-    ensures outcome { IfOk result (λ o. IsOutcome (request schema.now made.now fragments.now.all
-        file.now operation.now (view variables.now) (view stored.now)) (outcome_of o)) }
-    ensures heavy { IfErr result (λ e. e ≡ ExecRefusal.TooHeavy → IsTooHeavy (request schema.now
-        made.now fragments.now.all file.now operation.now (view variables.now) (view stored.now))) }
+    ensures outcome { IfOk result (λ o. IsOutcome most (request schema.now made.now
+        fragments.now.all file.now operation.now (view variables.now) (view stored.now))
+        (outcome_of o)) }
+    ensures heavy { IfErr result (λ e. e ≡ ExecRefusal.TooHeavy → IsTooHeavy most
+        (request schema.now made.now fragments.now.all file.now operation.now
+        (view variables.now) (view stored.now))) }
 {
     laws::one_of_variables();
     let definitions = operation.variables.as_slice();
@@ -214,7 +220,7 @@ fn execute_request<'d>(
                 values: &values,
             };
             let setting = Setting { context, made };
-            execute_operation(alloc, &setting, file, operation, stored)
+            execute_operation(alloc, &setting, file, operation, stored, most)
         }
         Err(CoerceFault::Refused(refusal)) => Ok(request_error(alloc, definitions, &refusal)?),
         Err(CoerceFault::Memory) => Err(ExecRefusal::Memory),
@@ -226,9 +232,8 @@ fn execute_request<'d>(
 ///
 /// First the variables are coerced; the first refusal is a request error, and nothing is executed.
 /// Then the selections are executed on the data. The data are not changed: the outcome has what a
-/// mutation is to add to them. If more than 100,000 values are to be completed,
-/// the execution is refused: each field of an answer counts as one, and so does each item of a
-/// list.
+/// mutation is to add to them. If more than `most` values are to be completed, the execution is
+/// refused: each field of an answer counts as one, and so does each item of a list.
 ///
 /// `schema`, `made` and `fragments` are what the caller keeps of its files: the outcome is that of
 /// the request by the files alone. A definition that is not an operation has neither data nor
@@ -241,17 +246,18 @@ pub fn execute<'d>(
     definition: &'d Definition,
     variables: &Value,
     stored: &Value,
+    most: usize,
 ) -> Result<Outcome<'d>, ExecRefusal>
     ensures outcome { IfOk result (λ o. (files : TheFiles) → (operation : AnOperation)
         → IsKeptOf files schema.now made.now fragments.now.all
         → definition.now.tree ≡ tree.Operation operation
-        → IsOutcome (request_of files definition.now operation (view variables.now)
+        → IsOutcome most (request_of files definition.now operation (view variables.now)
         (view stored.now)) (outcome_of o)) }
     ensures heavy { IfErr result (λ e. e ≡ ExecRefusal.TooHeavy
         → (files : TheFiles) → (operation : AnOperation)
         → IsKeptOf files schema.now made.now fragments.now.all
         → definition.now.tree ≡ tree.Operation operation
-        → IsTooHeavy (request_of files definition.now operation (view variables.now)
+        → IsTooHeavy most (request_of files definition.now operation (view variables.now)
         (view stored.now))) }
     ensures other { IsNoOperation definition.now
         → IsOkAnd result (λ o. outcome_of o ≡ spec.no_outcome) }
@@ -262,6 +268,6 @@ pub fn execute<'d>(
     let file = &definition.file;
     let operation = operation.get();
     execute_request(
-        alloc, fragments, schema, made, file, operation, variables, stored,
+        alloc, fragments, schema, made, file, operation, variables, stored, most,
     )
 }

@@ -4,7 +4,7 @@ use Rattle.gql_ast.specs.declared.fault.FileSide.{FileSide}
 use Rattle.gql_registry.specs.DataBodies.{IsDataText}
 use Rattle.gql_registry.specs.Edits as edit
 use Rattle.gql_registry.specs.Edits.{Edit, Fails, Makes}
-use Rattle.gql_registry.specs.State.{State, next_data, with_effects}
+use Rattle.gql_registry.specs.State.{State, next_data, profile_of, with_effects}
 use Rattle.gql_registry.specs.declared.refusal.Refusal.{Refusal}
 use Rattle.gql_registry.specs.declared.registry.Edited.{Edited}
 use Rattle.gql_registry.proofs.OneEdit.{refused as first_refusal}
@@ -24,7 +24,7 @@ use Rattle.gql_http.proofs.Presence.{data_refused, Split, split_run}
 
 -- what a request does to the data
 data Deed (s t : State) (r : Req) : Type 0 where
-  puts : (body : List ℕ) → IsAcceptedEdit s r (edit.put_data body) → IsDataText body t.stored → Deed s t r
+  puts : (body : List ℕ) → IsAcceptedEdit s r (edit.put_data body) → IsDataText (profile_of s) body t.stored → Deed s t r
   ran : (effects : List Effect) → RunsWith s r effects → t.stored ≡ after effects s.stored → Deed s t r
   keeps : (ChangesData s r → ⊥) → t.stored ≡ s.stored → Deed s t r
 
@@ -73,7 +73,7 @@ data_deed : (s t : State) (method target body : List ℕ) (closing : Bool) (expe
     → edit_said r ≡ Some a → Makes s expected (edit.put_data body) r t → Deed s t (request method target body closing)
 data_deed s t method target body closing expected a (Ok edited) is said h =
     puts body (record { expected = expected; asks = asks_to_put_data is; accepted = h.0 })
-    (subst (IsDataText body) (sym (ap (λ (x : State). x.stored) h.1.2)) h.1.1)
+    (subst (IsDataText (profile_of s) body) (sym (ap (λ (x : State). x.stored) h.1.2)) h.1.1)
 data_deed s t method target body closing expected a (Err q) is said h =
     let refusal = first_refusal s t expected (edit.put_data body) q (said_made (Err q) a said) h in
     keeps (none refusal.0.fails) (ap (λ (x : State). x.stored) refusal.1)

@@ -76,7 +76,7 @@ refusal_said refusal.BadData = Some (said 400 (error_text (codes "data is not ac
 refusal_said refusal.NoOperation = Some (said 404 (error_text (codes "no such operation") 208))
 refusal_said (refusal.Faulty faults) = Some (said 422 (faulty_text faults))
 refusal_said refusal.TooLarge = Some (said 422 (error_text (codes "answer is too large") 210))
-refusal_said refusal.NotRun = Some (said 422 (error_text (codes "this operation is not run") 213))
+refusal_said refusal.NotRun = Some (said 422 (error_text (codes "subscriptions are not run") 213))
 refusal_said refusal.Memory = None
 refusal_said refusal.Spent = Some (said 409 (error_text (codes "revisions are spent") 212))
 

@@ -6,7 +6,7 @@ use Rattle.gql_registry.specs.DataBodies.{IsDataText}
 use Rattle.gql_registry.specs.Edits.{Edit, IsAccepted}
 use Rattle.gql_registry.specs.Edits as edit
 use Rattle.gql_registry.specs.Laws.{LeavesUnder}
-use Rattle.gql_registry.specs.State.{State}
+use Rattle.gql_registry.specs.State.{State, profile_of}
 use Rattle.gql_stored.specs.Effects.{Effect, after}
 use Rattle.gql_wire.specs.Stream.{Req, request}
 use Rattle.gql_http.specs.Answers.{Said}
@@ -65,8 +65,9 @@ pub data ChangesData (s : State) (r : Req) : Type 0 where
 pub data DataAfter : State → Data → List Req → Data → Type 0 where
   no_more_requests : {s : State} {d : Data} → DataAfter s d [] d
   by_data : {s t : State} {before put last : Data} {body : List ℕ} {r : Req} {rs : List Req}
-      (bytes : List ℕ) → IsAcceptedEdit s r (edit.put_data body) → IsDataText body put
-      → Step s r bytes t → DataAfter t put rs last → DataAfter s before (r ∷ rs) last
+      (bytes : List ℕ) → IsAcceptedEdit s r (edit.put_data body)
+      → IsDataText (profile_of s) body put → Step s r bytes t → DataAfter t put rs last
+      → DataAfter s before (r ∷ rs) last
   by_run : {s t : State} {before last : Data} {effects : List Effect} {r : Req} {rs : List Req}
       (bytes : List ℕ) → RunsWith s r effects
       → Step s r bytes t → DataAfter t (after effects before) rs last

@@ -148,7 +148,7 @@ pub fn refusal_answer(alloc: Global, refusal: &Refusal) -> Result<Answer, AllocE
         Refusal::NotRun => simple(
             alloc,
             StatusCode::UNPROCESSABLE_ENTITY,
-            "this operation is not run",
+            "subscriptions are not run",
             number,
         ),
         Refusal::Memory => Err(AllocError),

@@ -1,3 +1,4 @@
+pub mod Powers
 pub mod Values
 pub mod OfParts
 pub mod OfRounding

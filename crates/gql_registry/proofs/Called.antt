@@ -1,5 +1,5 @@
 -- Calls of operations that no fault stands against.
-use Rattle.std.proofs.Common.{◌≡◌, ◌∙◌, inl, inr, Bool, true, false, not, List, [], ◌∷◌, flat_map, find, bytes_eq, Option, Some, None, option_map, Contains, ℕ, Result, Ok, Err, IfOk, IfErr, refl, sym, ap, subst}
+use Rattle.std.proofs.Common.{◌≡◌, ◌∙◌, inl, inr, Bool, true, false, List, [], ◌∷◌, flat_map, find, bytes_eq, Option, Some, None, option_map, Contains, ℕ, Result, Ok, Err, IfOk, IfErr, refl, sym, ap, subst}
 use Rattle.std.specs.Result.{IsErrAnd}
 use Rattle.gql_ast.specs.declared.definition.Definition.{Definition}
 use Rattle.gql_ast.specs.declared.definition.Document.{Document}
@@ -10,7 +10,6 @@ use Rattle.gql_ast.specs.declared.executable.OperationKind.{OperationKind}
 use Rattle.gql_ast.specs.declared.executable.OperationKind.TheVariants as kinds
 use Rattle.gql_ast.specs.declared.fault.Fault.{Fault}
 use Rattle.gql_ast.specs.declared.files.Files.{Files}
-use Rattle.gql_ast.specs.declared.profile.Profile.{Profile}
 use Rattle.gql_ast.specs.declared.text.Name.{Name}
 use Rattle.gql_steps.specs.Requests.{Executes, Response, request_of}
 use Rattle.gql_facts.specs.ListMembers.{Contains-nil, Contains-here, Contains-cases, Contains-flat_map, Contains-flat_map_from, found_in}
@@ -129,8 +128,8 @@ no_fault files d none x f there h owned =
     none f (of_documents (report.of_definition {d = x} (sound files d none) there h) owned)
 
 -- the operation is run
-abbrev AreRun : Files → Definition → Type 0
-AreRun files d = TellsRun files.profile d true
+abbrev AreRun : Definition → Type 0
+AreRun d = TellsRun d true
 
 -- a response, where no fault stands against the operation and it is run
 record SomeResponse (files : Files) (stored : Data) (name : Option (List ℕ)) (variables : Data) (d : Definition) : Type 0 where
@@ -141,7 +140,7 @@ record SomeResponse (files : Files) (stored : Data) (name : Option (List ℕ)) (
   answers : IsResponse files stored name variables response
 
 some_response : SomeAnswer → (files : Files) (stored : Data) (name : Option (List ℕ)) (variables : Data) (d : Definition) → chosen files.documents name ≡ Some d
-    → ((f : Fault) → StandsAgainst files d f → ⊥) → AreRun files d → SomeResponse files stored name variables d
+    → ((f : Fault) → StandsAgainst files d f → ⊥) → AreRun d → SomeResponse files stored name variables d
 some_response law files stored name variables d called none run =
     let o = chosen_is files.documents name d called in
     let p = law files d o.operation o.is o.there (sound files d none) (no_fault files d none) variables stored in
@@ -160,14 +159,14 @@ some_response law files stored name variables d called none run =
     }
 
 pub replied : SomeAnswer → (files : Files) (stored : Data) (name : Option (List ℕ)) (variables : Data) (d : Definition) → chosen files.documents name ≡ Some d
-    → ((f : Fault) → StandsAgainst files d f → ⊥) → AreRun files d → (ran : Ran) → IsOutcomeOf files d variables stored ran → Answers files stored name variables (Ok (outcome_of ran))
+    → ((f : Fault) → StandsAgainst files d f → ⊥) → AreRun d → (ran : Ran) → IsOutcomeOf files d variables stored ran → Answers files stored name variables (Ok (outcome_of ran))
 replied law files stored name variables d called none run ran is =
     let r = some_response law files stored name variables d called none run in
     let h = is r.operation r.is r.response r.executes in
     subst (λ c. Answers files stored name variables (Ok c)) (sym h.1) (served {p = r.response} r.answers h.0)
 
 pub over : SomeAnswer → (files : Files) (stored : Data) (name : Option (List ℕ)) (variables : Data) (d : Definition) → chosen files.documents name ≡ Some d
-    → ((f : Fault) → StandsAgainst files d f → ⊥) → AreRun files d → (e : Refusal) → IsOver files d variables stored e → Answers files stored name variables (Err e)
+    → ((f : Fault) → StandsAgainst files d f → ⊥) → AreRun d → (e : Refusal) → IsOver files d variables stored e → Answers files stored name variables (Err e)
 over law files stored name variables d called none run refusal.TooLarge is =
     let r = some_response law files stored name variables d called none run in
     too_large {p = r.response} r.answers (is r.operation r.is r.response r.executes)
@@ -186,29 +185,29 @@ over law files stored name variables d called none run refusal.Spent is = absurd
 
 -- either way
 pub answered : SomeAnswer → (files : Files) (stored : Data) (name : Option (List ℕ)) (variables : Data) (d : Definition) → chosen files.documents name ≡ Some d
-    → ((f : Fault) → StandsAgainst files d f → ⊥) → AreRun files d → (r : Result Ran Refusal) → IfOk r (IsOutcomeOf files d variables stored) → IfErr r (IsOver files d variables stored)
+    → ((f : Fault) → StandsAgainst files d f → ⊥) → AreRun d → (r : Result Ran Refusal) → IfOk r (IsOutcomeOf files d variables stored) → IfErr r (IsOver files d variables stored)
     → Answers files stored name variables (ran_of r)
 answered law files stored name variables d called none run (Ok ran) ok err = replied law files stored name variables d called none run ran ok
 answered law files stored name variables d called none run (Err e) ok err = over law files stored name variables d called none run e err
 
 -- the operation is not run
 pub unrun : (files : Files) (stored : Data) (name : Option (List ℕ)) (variables : Data) (d : Definition) → chosen files.documents name ≡ Some d
-    → ((f : Fault) → StandsAgainst files d f → ⊥) → TellsRun files.profile d false → Answers files stored name variables (Err refusal.NotRun)
+    → ((f : Fault) → StandsAgainst files d f → ⊥) → TellsRun d false → Answers files stored name variables (Err refusal.NotRun)
 unrun files stored name variables d called none tells =
     let o = chosen_is files.documents name d called in
     not_run {d = d} {o = o.operation} (record { called = called; operation = o.is; sound = none }) (sym (tells o.operation o.is))
 
 -- ---- which operations are run
 
-only_subscriptions : (p : Profile) (k : OperationKind) → p.floats ≡ false → is_run p k ≡ false → k ≡ kinds.Subscription
-only_subscriptions p kinds.Query floats is = absurd (let clash : true ≡ false = sym (ap not floats) ∙ is in cc clash)
-only_subscriptions p kinds.Mutation floats is = absurd (let clash : true ≡ false = sym (ap not floats) ∙ is in cc clash)
-only_subscriptions p kinds.Subscription floats is = refl
+only_subscriptions : (k : OperationKind) → is_run k ≡ false → k ≡ kinds.Subscription
+only_subscriptions kinds.Query is = cc
+only_subscriptions kinds.Mutation is = cc
+only_subscriptions kinds.Subscription is = refl
 
 pub all_are_run : NoSubscriptions → AllAreRun
-all_are_run law files stored name variables floats subscriptions (not_run {d = d} {o = o} s is) =
+all_are_run law files stored name variables subscriptions (not_run {d = d} {o = o} s is) =
     law files d o subscriptions s.operation (chosen_is files.documents name d s.called).there (sound files d s.sound) (no_fault files d s.sound)
-    (only_subscriptions files.profile o.kind floats is)
+    (only_subscriptions o.kind is)
 
 -- a call that failed for memory
 pub failed : (files : Files) (stored : Data) (name : Option (List ℕ)) (variables : Data) (r : Result Ran Refusal) → IsErrAnd r (λ e. e ≡ refusal.Memory)

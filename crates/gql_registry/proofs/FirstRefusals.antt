@@ -156,7 +156,7 @@ first_data_not_text s expected bytes same left bad = record { fails = data_not_t
 
 -- then 207
 pub first_bad_data : (s : State) (expected : Option ℕ) (bytes : List ℕ) → IsExpected s expected → s.revision < last_revision → IsUtf8 bytes
-    → ((d : Data) → IsDataText bytes d → ⊥) → IsFirstRefusal s expected (put_data bytes) refusal.BadData
+    → ((d : Data) → IsDataText (profile_of s) bytes d → ⊥) → IsFirstRefusal s expected (put_data bytes) refusal.BadData
 first_bad_data s expected bytes same left text bad = record { fails = bad_data bad; first = λ other h. after_text s expected bytes other same left text h }
   where
     after_text : (s : State) (expected : Option ℕ) (bytes : List ℕ) (r : Refusal) → IsExpected s expected → s.revision < last_revision → IsUtf8 bytes → Fails s expected (put_data bytes) r → 4 ≤ rank r
@@ -165,7 +165,7 @@ first_bad_data s expected bytes same left text bad = record { fails = bad_data b
     after_text s _ bytes _ same left text (data_not_text bad) = absurd (bad text)
     after_text s _ bytes _ same left text (bad_data bad) = omega arith
 
-pub data_accepted : (s : State) (expected : Option ℕ) (bytes : List ℕ) (d : Data) → IsExpected s expected → s.revision < last_revision → IsUtf8 bytes → IsDataText bytes d → IsAccepted s expected (put_data bytes)
+pub data_accepted : (s : State) (expected : Option ℕ) (bytes : List ℕ) (d : Data) → IsExpected s expected → s.revision < last_revision → IsUtf8 bytes → IsDataText (profile_of s) bytes d → IsAccepted s expected (put_data bytes)
 data_accepted s _ bytes d same left text read _ (stale apart) = apart same
 data_accepted s _ bytes d same left text read _ (spent is) = omega arith
 data_accepted s _ bytes d same left text read _ (data_not_text bad) = bad text

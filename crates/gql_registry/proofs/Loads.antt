@@ -83,7 +83,7 @@ file_placed side name bytes before after p all =
     subst (λ (f : Files). AreFilesPlaced f.documents) (sym p.is) (put_placed_on side before name p.document all p.placed)
 
 -- data that are put
-pub data_puts : (files : Files) (stored : Data) (n m : ℕ) (bytes : List ℕ) (d : Data) → m ≡ n + 1 → n < last_revision → IsUtf8 bytes → IsDataText bytes d
+pub data_puts : (files : Files) (stored : Data) (n m : ℕ) (bytes : List ℕ) (d : Data) → m ≡ n + 1 → n < last_revision → IsUtf8 bytes → IsDataText files.profile bytes d
     → Puts (state_over files stored n) (put_data bytes) (state_over files d m)
 data_puts files stored n m bytes d next left text is = (
   data_accepted (state_over files stored n) None bytes d tt left text is,

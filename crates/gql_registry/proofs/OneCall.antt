@@ -6,7 +6,7 @@ use Rattle.gql_ast.specs.declared.executable.Operation.{Operation}
 use Rattle.gql_ast.specs.declared.fault.Fault.{Fault}
 use Rattle.gql_ast.specs.declared.files.Files.{Files}
 use Rattle.gql_exec.specs.Laws.{OneResponse}
-use Rattle.gql_steps.specs.Requests.{Executes, Response, most_values, request_of}
+use Rattle.gql_steps.specs.Requests.{Executes, Response, request_of}
 use Rattle.gql_facts.specs.ListMembers.{Contains-here}
 use Rattle.gql_registry.specs.Chosen.{chosen}
 use Rattle.gql_report.specs.Laws.{OneOrder}
@@ -43,12 +43,12 @@ module _ (responses : OneResponse) (orders : OneOrder) (files : Files) (stored :
       h.sound f (subst (λ x. StandsAgainst files x f) same ((are.1 f).0 (Contains-here f fs)))
 
   -- an operation that is not run has no response
-  no_response : (d : Definition) (o : Operation) (p : Response) → IsServed files name d o → is_run files.profile o.kind ≡ false → IsResponse files stored name variables p → ⊥
+  no_response : (d : Definition) (o : Operation) (p : Response) → IsServed files name d o → is_run o.kind ≡ false → IsResponse files stored name variables p → ⊥
   no_response d o p s not h =
       let same : d ≡ h.definition = chosen_same (chosen files.documents name) d h.definition s.called h.served.called in
       let there : h.definition.tree ≡ tree.Operation o = sym (ap (λ (x : Definition). x.tree) same) ∙ s.operation in
       let one : o ≡ h.operation = operation_same h.definition o h.operation there h.served.operation in
-      let clash : true ≡ false = sym h.run ∙ sym (ap (λ (x : Operation). is_run files.profile x.kind) one) ∙ not in
+      let clash : true ≡ false = sym h.run ∙ sym (ap (λ (x : Operation). is_run x.kind) one) ∙ not in
       cc clash
 
   same_faults : (d e : Definition) (fs gs : List Fault) → chosen files.documents name ≡ Some d → chosen files.documents name ≡ Some e → AreAgainst files d fs → AreAgainst files e gs → fs ≡ gs
@@ -57,7 +57,7 @@ module _ (responses : OneResponse) (orders : OneOrder) (files : Files) (stored :
       let are : AreAgainst files e fs = subst (λ x. AreAgainst files x fs) same are_d in
       orders fs gs are.0 are_e.0 (λ f. (λ h. (are_e.1 f).1 ((are.1 f).0 h), λ h. (are.1 f).1 ((are_e.1 f).0 h)))
 
-  heavy : (p q : Response) → p ≡ q → most_values < p.weight → q.weight ≤ most_values → ⊥
+  heavy : (p q : Response) → p ≡ q → files.profile.limits.values < p.weight → q.weight ≤ files.profile.limits.values → ⊥
   heavy p q same more most = omega (arith, more, most, ap (λ (r : Response). r.weight) same)
 
   one : (r q : Result CallOutcome Refusal) → Answers files stored name variables r → Answers files stored name variables q → (r ≡ Err refusal.Memory → ⊥) → (q ≡ Err refusal.Memory → ⊥) → r ≡ q

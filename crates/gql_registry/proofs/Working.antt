@@ -5,10 +5,11 @@ use Rattle.gql_ast.specs.declared.definition.DefinitionId.{DefinitionId}
 use Rattle.gql_ast.specs.declared.files.Files.{Files}
 use Rattle.gql_facts.specs.Facts.{fact_of}
 use Rattle.gql_registry.specs.EditPlans.{IsEditPlanBy, IsRefusedBy}
+use Rattle.gql_ast.specs.declared.profile.Profile.{Profile}
 use Rattle.gql_registry.specs.Checks.{IsBadData, IsInTime}
 use Rattle.gql_registry.specs.Edits.{Edit, put_data, IsFirstRefusal, Leaves, Makes, Reports}
 use Rattle.gql_registry.specs.Keeping.{IsWorkOn}
-use Rattle.gql_registry.specs.State.{State, next}
+use Rattle.gql_registry.specs.State.{State, next, profile_of}
 use Rattle.gql_registry.specs.declared.edit_plan.EditPlan.{EditPlan}
 use Rattle.gql_registry.specs.Works.{Works, WorksInVain}
 use Rattle.gql_registry.specs.declared.refusal.Refusal.{Refusal}
@@ -61,10 +62,10 @@ refused_answer s expected e (Ok edited) q is h time = absurd is
 refused_answer s expected e (Err x) q is h time = subst (λ y. Makes s expected e (Err y) s) (sym is) (h expected time)
 
 -- data that come in time and are refused
-pub bad_data_answer : (s : State) (expected : Option ℕ) (bytes : List ℕ) (r : Result Edited Refusal) (q : Refusal) → IsErrAnd r (λ x. x ≡ q) → IsBadData bytes q → IsInTime s expected
+pub bad_data_answer : (s : State) (expected : Option ℕ) (profile : Profile) (bytes : List ℕ) (r : Result Edited Refusal) (q : Refusal) → IsErrAnd r (λ x. x ≡ q) → profile_of s ≡ profile → IsBadData profile bytes q → IsInTime s expected
     → Makes s expected (put_data bytes) r s
-bad_data_answer s expected bytes (Ok edited) q is h time = absurd is
-bad_data_answer s expected bytes (Err x) q is h time = subst (λ y. Makes s expected (put_data bytes) (Err y) s) (sym is) (h s expected time)
+bad_data_answer s expected profile bytes (Ok edited) q is same h time = absurd is
+bad_data_answer s expected profile bytes (Err x) q is same h time = subst (λ y. Makes s expected (put_data bytes) (Err y) s) (sym is) (h s expected same time)
 
 -- an edit that failed for memory before it came to be taken
 pub in_vain : (s : State) (e : Edit) (r : Result EditPlan Refusal) → IsErrAnd r (λ x. x ≡ refusal.Memory) → IfErr r (IsRefusedBy s e)

@@ -5,8 +5,7 @@ use Rattle.gql_ast.specs.declared.definition.Definition.{Definition}
 use Rattle.gql_ast.specs.declared.definition.Tree.TheVariants as tree
 use Rattle.gql_ast.specs.declared.executable.Operation.{Operation}
 use Rattle.gql_ast.specs.declared.files.Files.{Files}
-use Rattle.gql_ast.specs.declared.profile.Profile.{Profile}
-use Rattle.gql_steps.specs.Requests.{Executes, Response, most_values, request_of}
+use Rattle.gql_steps.specs.Requests.{Executes, Response, request_of}
 use Rattle.gql_registry.specs.Calls.{outcome_of}
 use Rattle.gql_registry.specs.Prepared as prepared
 use Rattle.gql_registry.specs.Runs.{is_run}
@@ -16,9 +15,9 @@ use Rattle.gql_registry.specs.declared.refusal.Refusal.TheVariants.{TooLarge, Me
 use Rattle.serde_json.specs.Data.{Data}
 
 -- whether the operation of a definition is run
-abbrev pub TellsRun : Profile → Definition → Bool → Type 0
-TellsRun profile d runs = (operation : Operation) → d.tree ≡ tree.Operation operation
-    → runs ≡ is_run profile operation.kind
+abbrev pub TellsRun : Definition → Bool → Type 0
+TellsRun d runs = (operation : Operation) → d.tree ≡ tree.Operation operation
+    → runs ≡ is_run operation.kind
 
 -- `Holds` is true of each response to the request of an operation
 abbrev pub OfResponses : Files → Definition → Data → Data → (Response → Type 0) → Type 0
@@ -26,14 +25,14 @@ OfResponses files d variables stored Holds = (operation : Operation)
     → d.tree ≡ tree.Operation operation → (p : Response)
     → Executes (request_of files d operation variables stored) p → Holds p
 
--- this is what the response comes to, of which at most `most_values` values are completed
+-- this is what the response comes to, of which no more values are completed than the profile allows
 abbrev pub IsOutcomeOf : Files → Definition → Data → Data → Ran → Type 0
 IsOutcomeOf files d variables stored ran = OfResponses files d variables stored
-    (λ p. (p.weight ≤ most_values) × (prepared.outcome_of ran ≡ outcome_of p))
+    (λ p. (p.weight ≤ files.profile.limits.values) × (prepared.outcome_of ran ≡ outcome_of p))
 
--- the response has more values than `most_values`, or an allocation failed
+-- the response has more values than the profile allows, or an allocation failed
 abbrev pub IsOver : Files → Definition → Data → Data → Refusal → Type 0
 IsOver files d variables stored TooLarge =
-    OfResponses files d variables stored (λ p. most_values < p.weight)
+    OfResponses files d variables stored (λ p. files.profile.limits.values < p.weight)
 IsOver files d variables stored Memory = Unit {0}
 IsOver files d variables stored _ = ⊥

@@ -8,7 +8,7 @@ use Rattle.gql_ast.specs.declared.definition.Tree.TheVariants as tree
 use Rattle.gql_ast.specs.declared.executable.Operation.{Operation}
 use Rattle.gql_ast.specs.declared.fault.Fault.{Fault}
 use Rattle.gql_ast.specs.declared.files.Files.{Files}
-use Rattle.gql_steps.specs.Requests.{Executes, Response, most_values, request_of}
+use Rattle.gql_steps.specs.Requests.{Executes, Response, request_of}
 use Rattle.gql_facts.specs.Facts.{fact_of}
 use Rattle.gql_registry.specs.Chosen as operations
 use Rattle.gql_reply.specs.ReplyText.{reply_text}
@@ -46,7 +46,7 @@ pub record IsResponse (files : Files) (stored : Data) (name : Option (List ℕ))
   pub definition : Definition
   pub operation : Operation
   pub served : IsServed files name definition operation
-  pub run : is_run files.profile operation.kind ≡ true
+  pub run : is_run operation.kind ≡ true
   pub executes : Executes (request_of files definition operation variables stored) p
 
 -- what a served call comes to: the text of its reply, and what it adds to the data, in order
@@ -69,14 +69,16 @@ pub data Answers (files : Files) (stored : Data) (name : Option (List ℕ)) (var
   faulty : {d : Definition} {faults : List Fault} → operations.chosen files.documents name ≡ Some d
       → AreAgainst files d faults → faults ≢ []
       → Answers files stored name variables (Err (Faulty faults))
-  -- 213: no fault keeps the operation from being executed, but it is not run
-  not_run : {d : Definition} {o : Operation} → IsServed files name d o
-      → is_run files.profile o.kind ≡ false → Answers files stored name variables (Err NotRun)
-  -- 210: too many values are to be completed: more than `most_values`, under every profile as yet
-  too_large : {p : Response} → IsResponse files stored name variables p → most_values < p.weight
+  -- 213: no fault keeps the operation from being executed, but it is a subscription
+  not_run : {d : Definition} {o : Operation} → IsServed files name d o → is_run o.kind ≡ false
+      → Answers files stored name variables (Err NotRun)
+  -- 210: more values are to be completed than the profile allows
+  too_large : {p : Response} → IsResponse files stored name variables p
+      → files.profile.limits.values < p.weight
       → Answers files stored name variables (Err TooLarge)
   -- the response
-  served : {p : Response} → IsResponse files stored name variables p → p.weight ≤ most_values
+  served : {p : Response} → IsResponse files stored name variables p
+      → p.weight ≤ files.profile.limits.values
       → Answers files stored name variables (Ok (outcome_of p))
   -- an allocation failed
   memory : Answers files stored name variables (Err Memory)

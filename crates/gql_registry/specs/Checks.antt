@@ -40,7 +40,8 @@ abbrev pub IsUnread : Profile → FileSide → List ℕ → List ℕ → Refusal
 IsUnread profile side name bytes r = (s : State) (expected : Option ℕ) → profile_of s ≡ profile
     → IsInTime s expected → Makes s expected (put side name bytes) (Err r) s
 
--- an edit that puts the bytes as data is refused with this, if it passes the first two checks
-abbrev pub IsBadData : List ℕ → Refusal → Type 0
-IsBadData bytes r = (s : State) (expected : Option ℕ) → IsInTime s expected
-    → Makes s expected (put_data bytes) (Err r) s
+-- an edit that puts the bytes as data under this profile is refused with this, if it passes the
+-- first two checks
+abbrev pub IsBadData : Profile → List ℕ → Refusal → Type 0
+IsBadData profile bytes r = (s : State) (expected : Option ℕ) → profile_of s ≡ profile
+    → IsInTime s expected → Makes s expected (put_data bytes) (Err r) s

@@ -1,6 +1,7 @@
 -- Which texts are data that operations are executed on. GraphQL leaves it to a service where its
 -- values come from (6.4.2); this is this registry's own rule.
-use Rattle.std.specs.Prelude.{◌≡◌, ◌&&◌, ℕ, List, Bool, true, false, codes, is_some, Option, Some, None}
+use Rattle.std.specs.Prelude.{◌≡◌, ◌&&◌, ◌||◌, ℕ, List, Bool, true, false, codes, is_some, Option, Some, None}
+use Rattle.gql_ast.specs.declared.profile.Profile.{Profile}
 use Rattle.serde_json.specs.Data.{Data, Items, Members, null, boolean, number, string, array, object, no_items, item, no_members, member}
 use Rattle.serde_json.specs.Find.{as_i64, get}
 use Rattle.serde_json.specs.Read.{read}
@@ -35,11 +36,11 @@ is_object_if_some None = true
 is_object_if_some (Some d) = is_object d
 
 -- whether operations can be executed on a value: an object whose members for queries and for
--- mutations are objects, if there are any, and whose numbers are integers
-abbrev pub is_data : Data → Bool
-is_data d = is_object d && (is_object_if_some (get (codes "query") d)
-    && (is_object_if_some (get (codes "mutation") d) && has_integers d))
+-- mutations are objects, if there are any, and whose numbers are integers, unless Float is served
+abbrev pub is_data : Profile → Data → Bool
+is_data profile d = is_object d && (is_object_if_some (get (codes "query") d)
+    && (is_object_if_some (get (codes "mutation") d) && (profile.floats || has_integers d)))
 
--- the text is read as this data, on which operations can be executed
-abbrev pub IsDataText : List ℕ → Data → Type 0
-IsDataText text d = (read text ≡ Some d) × (is_data d ≡ true)
+-- the text is read as this data, on which operations can be executed under this profile
+abbrev pub IsDataText : Profile → List ℕ → Data → Type 0
+IsDataText profile text d = (read text ≡ Some d) × (is_data profile d ≡ true)

@@ -50,7 +50,8 @@ pub data Fails : State → Option ℕ → Edit → Refusal → Type 0 where
       → Fails s expected (put_data bytes) NotText
   -- 207: the text is not accepted as data
   bad_data : {s : State} {expected : Option ℕ} {bytes : List ℕ}
-      → ((d : Data) → IsDataText bytes d → ⊥) → Fails s expected (put_data bytes) BadData
+      → ((d : Data) → IsDataText (profile_of s) bytes d → ⊥)
+      → Fails s expected (put_data bytes) BadData
   -- 201: the text is not a file of the side
   syntax : {s : State} {expected : Option ℕ}
       {side : FileSide} {name bytes : List ℕ} {number : SyntaxRefusal}
@@ -98,7 +99,7 @@ Leaves s (put side name bytes) t =
     (document : Document) × IsFileOn side name bytes document
     × (t ≡ next s (with_put side s.files name document))
 Leaves s (remove side name) t = t ≡ next s (with_removed side s.files name)
-Leaves s (put_data bytes) t = (d : Data) × IsDataText bytes d × (t ≡ next_data s d)
+Leaves s (put_data bytes) t = (d : Data) × IsDataText (profile_of s) bytes d × (t ≡ next_data s d)
 
 -- what an accepted edit that leaves this state answers: the revision, and the number of faults in
 -- the report

@@ -50,10 +50,10 @@ abbrev pub LoadKeepsProfile : Type 0
 LoadKeepsProfile = (s t : State) (edits : List Edit) (r : Result Edited PutRefusal)
     → Loads s edits r t → profile_of t ≡ profile_of s
 
--- without Float and subscriptions, every operation that no fault keeps from being executed is run
+-- without subscriptions, every operation that no fault keeps from being executed is run
 abbrev pub AllAreRun : Type 0
 AllAreRun = (files : Files) (stored : Data) (name : Option (List ℕ)) (variables : Data)
-    → files.profile.floats ≡ false → files.profile.subscriptions ≡ false
+    → files.profile.subscriptions ≡ false
     → Answers files stored name variables (Err NotRun) → ⊥
 
 -- files have at most one report

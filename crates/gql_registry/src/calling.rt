@@ -50,37 +50,40 @@ fn faults_against(
     Ok(faults)
 }
 
-/// Whether operations of this kind are run. A subscription is not, and none is where Float is served.
-fn is_run(profile: Profile, kind: OperationKind) -> bool
-    ensures { result ≡ spec.is_run profile kind }
+/// Whether operations of this kind are run: a subscription is not.
+fn is_run(kind: OperationKind) -> bool
+    ensures { result ≡ spec.is_run kind }
 {
     match kind {
-        OperationKind::Query | OperationKind::Mutation => !profile.floats,
+        OperationKind::Query | OperationKind::Mutation => true,
         OperationKind::Subscription => false,
     }
 }
 
 /// Whether the operation of a definition is run.
-fn runs(profile: Profile, definition: &Definition) -> bool
-    ensures { TellsRun profile definition.now result }
+fn runs(definition: &Definition) -> bool
+    ensures { TellsRun definition.now result }
 {
     match &definition.tree {
-        Tree::Operation(operation) => is_run(profile, operation.get().kind),
+        Tree::Operation(operation) => is_run(operation.get().kind),
         _ => false,
     }
 }
 
-/// Executes an operation, and writes the reply.
+/// Executes an operation within the limit of the profile, and writes the reply.
 fn executed(
     alloc: Global,
+    profile: Profile,
     known: &Known,
     definition: &Definition,
     variables: &Value,
     stored: &Value,
 ) -> Result<Ran, Refusal>
     ensures ok { IfOk result (λ ran. (files : TheFiles) → IsKnownOf files known.now
+        → files.profile ≡ profile
         → IsOutcomeOf files definition.now (view variables.now) (view stored.now) ran) }
     ensures err { IfErr result (λ e. (files : TheFiles) → IsKnownOf files known.now
+        → files.profile ≡ profile
         → IsOver files definition.now (view variables.now) (view stored.now) e) }
 {
     let schema = known.schema.get();
@@ -93,6 +96,7 @@ fn executed(
         definition,
         variables,
         stored,
+        profile.limits.values,
     ) {
         Ok(outcome) => {
             let body = reply_text(alloc, &outcome)?;
@@ -130,8 +134,8 @@ pub fn answer_call(
             faults: Items::from_vec(faults),
         });
     }
-    if !runs(profile, definition) {
+    if !runs(definition) {
         return Err(Refusal::NotRun);
     }
-    executed(alloc, known, definition, variables, stored)
+    executed(alloc, profile, known, definition, variables, stored)
 }

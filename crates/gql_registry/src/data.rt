@@ -9,6 +9,7 @@ ghost use Rattle.gql_registry.specs.DataBodies.{IsDataText};
 ghost use Rattle.gql_registry.specs.declared.data.DataFault.TheVariants.{Refused};
 
 use crate::integers::has_integers;
+use gql_ast::Profile;
 use serde_json::Value;
 use std::alloc::Global;
 use thiserror::Error;
@@ -35,25 +36,26 @@ fn is_root(value: &Value, key: &str) -> bool
 }
 
 /// Whether operations can be executed on a value.
-fn is_data(value: &Value) -> bool
-    ensures { result ≡ spec.is_data (view value.now) }
+fn is_data(profile: Profile, value: &Value) -> bool
+    ensures { result ≡ spec.is_data profile (view value.now) }
 {
     value.is_object()
         && is_root(value, "query")
         && is_root(value, "mutation")
-        && has_integers(value)
+        && (profile.floats || has_integers(value))
 }
 
 /// Reads a text as the data that operations are executed on: a JSON object whose members `query`
 /// and `mutation`, if there are any, are objects, and whose numbers are integers of 64 bits with a
-/// sign.
-pub fn data_in(alloc: Global, text: &str) -> Result<Value, DataFault>
-    ensures ok { IfOk result (λ v. IsDataText text.now (view v)) }
-    ensures err { IfErr result (λ e. e ≡ Refused → (d : Data) → IsDataText text.now d → ⊥) }
+/// sign, unless the profile has Float.
+pub fn data_in(alloc: Global, profile: Profile, text: &str) -> Result<Value, DataFault>
+    ensures ok { IfOk result (λ v. IsDataText profile text.now (view v)) }
+    ensures err { IfErr result
+        (λ e. e ≡ Refused → (d : Data) → IsDataText profile text.now d → ⊥) }
 {
     match Value::from_str(alloc, text) {
         Ok(value) => {
-            if is_data(&value) {
+            if is_data(profile, &value) {
                 Ok(value)
             } else {
                 Err(DataFault::Refused)

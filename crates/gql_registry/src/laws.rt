@@ -29,7 +29,7 @@ pub fn keeps_profile()
     ensures load { LoadKeepsProfile }
 {}
 
-/// Without Float and subscriptions, every operation that no fault keeps from being executed is run.
+/// Without subscriptions, every operation that no fault keeps from being executed is run.
 pub fn all_are_run()
     ensures { AllAreRun }
 {

@@ -149,7 +149,7 @@ impl Loading {
                 Ok(())
             }
             GivenPut::Data { bytes } => {
-                let data = read_data(alloc, bytes)?;
+                let data = read_data(alloc, self.files.profile, bytes)?;
                 set_data(&mut self.new_data, data);
                 Ok(())
             }

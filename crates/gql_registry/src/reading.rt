@@ -43,15 +43,15 @@ pub fn read_file(
     Ok(document)
 }
 
-/// Reads bytes as data. The refusals are 202 and 207, in this order.
-pub fn read_data(alloc: Global, bytes: &[u8]) -> Result<Value, Refusal>
-    ensures read { IfOk result (λ v. IsUtf8 bytes.now × IsDataText bytes.now (view v)) }
-    ensures err { IfErr result (IsBadData bytes.now) }
+/// Reads bytes as data under the profile. The refusals are 202 and 207, in this order.
+pub fn read_data(alloc: Global, profile: Profile, bytes: &[u8]) -> Result<Value, Refusal>
+    ensures read { IfOk result (λ v. IsUtf8 bytes.now × IsDataText profile bytes.now (view v)) }
+    ensures err { IfErr result (IsBadData profile bytes.now) }
 {
     let Ok(text) = str::from_utf8(bytes) else {
         return Err(Refusal::NotText);
     };
-    match data_in(alloc, text) {
+    match data_in(alloc, profile, text) {
         Ok(data) => Ok(data),
         Err(DataFault::Refused) => Err(Refusal::BadData),
         Err(DataFault::Memory) => Err(Refusal::Memory),

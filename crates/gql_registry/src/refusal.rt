@@ -42,7 +42,7 @@ pub enum Refusal {
     /// 209: the schema, the operation or a fragment that it reaches has these faults.
     #[error("operation is faulty")]
     Faulty { faults: Items<Shared<Fault>> },
-    /// 210: the answer has more than 100,000 values.
+    /// 210: the answer has more values than the profile allows.
     #[error("answer is too large")]
     TooLarge,
     /// 211: an allocation failed.
@@ -51,8 +51,8 @@ pub enum Refusal {
     /// 212: there is no revision after the present one.
     #[error("revisions are spent")]
     Spent,
-    /// 213: the operation has no faults, and is not run: it is a subscription, or the profile has Float.
-    #[error("this operation is not run")]
+    /// 213: the operation has no faults, but is a subscription.
+    #[error("subscriptions are not run")]
     NotRun,
 }
 

@@ -329,9 +329,9 @@ impl Registry {
 
     /// Puts bytes as the data that operations are executed on, in place of the data before, and
     /// returns the new revision and how many faults the report has. The data is a JSON object whose
-    /// numbers are integers, and whose members `query` and `mutation` are objects. The refusals, in
-    /// this order: 206, 212, 202 and 207, and 211 if an allocation fails. A refused edit changes
-    /// nothing. No definition is examined.
+    /// members `query` and `mutation` are objects, and whose numbers are integers, unless the
+    /// profile has Float. The refusals, in this order: 206, 212, 202 and 207, and 211 if an
+    /// allocation fails. A refused edit changes nothing. No definition is examined.
     #[tactic(none)]
     pub fn put_data(
         &mut self,
@@ -346,7 +346,8 @@ impl Registry {
         ensures meter { _meter.new ≡ _meter.old }
     {
         let revision = self.next_revision(expected)?;
-        let stored = read_data(self.alloc, bytes)?;
+        let profile = self.kept.files().profile;
+        let stored = read_data(self.alloc, profile, bytes)?;
         let faults = self.kept.count(self.alloc)?;
         self.stored = StoredData::new(stored);
         self.revision = revision;
@@ -356,8 +357,9 @@ impl Registry {
     /// Prepares a run of the stored operation of a name, or without a name of the only one, with the
     /// values of its variables, which are an object or null, on the data. The refusals, in this
     /// order: 208 if there is no such operation; 209 if the schema, the operation or a fragment
-    /// that it reaches has faults, with these faults; 213 if it is not run; 210 if more than 100,000
-    /// values are to be completed; and 211 if an allocation fails. Nothing is changed.
+    /// that it reaches has faults, with these faults; 213 if it is a subscription; 210 if more
+    /// values are to be completed than the profile allows; and 211 if an allocation fails. Nothing
+    /// is changed.
     pub fn prepare(&self, name: Option<&str>, variables: &Value) -> Result<Prepared, Refusal>
         ensures answers { Answers (state_of self.now).files (state_of self.now).stored
             (option_copied name.entry) (view variables.now) (prepared_of result) }

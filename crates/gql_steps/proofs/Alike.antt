@@ -1,13 +1,13 @@
 -- What is the same as each form of a value.
-use Rattle.std.proofs.Common.{◌≡◌, ◌&&◌, ℕ, suc, List, [], ◌∷◌, Bool, true, false, length, is_some, bytes_eq, Option, Some, None, refl, sym, ap, ◌∙◌}
+use Rattle.std.proofs.Common.{◌≡◌, ◌&&◌, ℕ, suc, List, [], ◌∷◌, Bool, true, false, length, is_some, bytes_eq, refl, sym, ap, ◌∙◌}
 use Rattle.std.specs.Bool.{beq}
 use Rattle.std.specs.Option.{option_map_or}
-use Rattle.std.specs.Prelude.{option_and_then, ℤ}
 use Rattle.serde_json.specs.Data as json
 use Rattle.serde_json.specs.Data.{Data, Num, Items, Members, item, no_items}
-use Rattle.serde_json.specs.Find.{as_null, as_bool, as_number, as_i64, as_str, as_array, as_object}
+use Rattle.serde_json.specs.Find.{as_null, as_bool, as_number, as_str, as_array, as_object}
 use Rattle.serde_json.specs.View.{items_of}
-use Rattle.gql_steps.specs.Resolution.{same_data, same_integer, same_items, same_members}
+use Rattle.gql_steps.specs.Resolution as numbers
+use Rattle.gql_steps.specs.Resolution.{same_data, same_items, same_members}
 
 pub same_null : (d : Data) → same_data json.null d ≡ is_some (as_null d)
 same_null json.null = refl
@@ -25,18 +25,13 @@ same_truth b (json.string s) = refl
 same_truth b (json.array ds) = refl
 same_truth b (json.object ms) = refl
 
-none_same : (o : Option ℤ) → same_integer o None ≡ false
-none_same None = refl
-none_same (Some z) = refl
-
-pub same_number : (n : Num) (d : Data)
-    → same_data (json.number n) d ≡ same_integer (as_i64 n) (option_and_then as_i64 (as_number d))
-same_number n json.null = sym (none_same (as_i64 n))
-same_number n (json.boolean b) = sym (none_same (as_i64 n))
+pub same_number : (n : Num) (d : Data) → same_data (json.number n) d ≡ option_map_or (numbers.same_number n) (as_number d) false
+same_number n json.null = refl
+same_number n (json.boolean b) = refl
 same_number n (json.number m) = refl
-same_number n (json.string s) = sym (none_same (as_i64 n))
-same_number n (json.array ds) = sym (none_same (as_i64 n))
-same_number n (json.object ms) = sym (none_same (as_i64 n))
+same_number n (json.string s) = refl
+same_number n (json.array ds) = refl
+same_number n (json.object ms) = refl
 
 pub same_text : (t : List ℕ) (d : Data) → same_data (json.string t) d ≡ option_map_or (bytes_eq t) (as_str d) false
 same_text t json.null = refl

@@ -11,7 +11,7 @@ use Rattle.serde_json.specs.Data as json
 use Rattle.serde_json.specs.Data.{Data, Items}
 use Rattle.serde_json.specs.Find.{as_array, as_object, get}
 use Rattle.serde_json.specs.View.{items_of}
-use Rattle.serde_json.specs.Written.{compact_text}
+use Rattle.gql_steps.specs.JsonText.{json_text}
 use Rattle.gql_steps.specs.Execution.{Object, Site, Types, stored, Plan, plan, Fields, no_fields, field, PlannedField, complete, each, execute, fault, is_null, leaf, list_reply, members_of, name_item, of_kind, on_abstract, on_answer, among, on_list, on_node, on_object}
 use Rattle.gql_steps.specs.Kinds.{kind_from}
 use Rattle.gql_steps.specs.Leaves.{as_boolean, as_enum, as_id, as_int, as_scalar, as_string, scalar_value}
@@ -184,7 +184,7 @@ boolean_present (json.object ms) y e = refl
 
 module _ (s : Site) (p : Path) where
   pub direct_is : (t : Written) (c : Scalar) (d y : Data) → is_list t ≡ false → kind_from (name_in t) (s.types.kind (name_in t)) ≡ value.Scalar c
-      → as_scalar c d ≡ Some y → is_null d ≡ false → value_part (complete s t p d) ≡ plain (compact_text y)
+      → as_scalar c d ≡ Some y → is_null d ≡ false → value_part (complete s t p d) ≡ plain (json_text y)
   direct_is (named n) c d y l k e null = ap value_part (present_named s p n d null) ∙ kind_scalar s n p d (s.types.kind n) c k ∙ ap (leaf_at n s.place p) e
   direct_is (listed t) c d y l k e null = cc
   direct_is (required t) c d y l k e null = ap value_part (within_marks s p t d null) ∙ direct_is t c d y l k e null
@@ -206,8 +206,8 @@ module _ (s : Site) (each : Path → Data → Reply Data) (p : Path) where
 
 -- an item that is written at once
 pub direct_item : (t : Written) (s : Site) (i : ℕ) (c : Scalar) (d y : Data) (p : Path) → is_list t ≡ false → kind_from (name_in t) (s.types.kind (name_in t)) ≡ value.Scalar c
-    → as_scalar c d ≡ Some y → is_null d ≡ false → content_of_item t s i d p ≡ plain (compact_text y)
-direct_item t s i c d y p l k e null = placed_direct t (value_part (complete s t (p ++ index i ∷ []) d)) (compact_text y)
+    → as_scalar c d ≡ Some y → is_null d ≡ false → content_of_item t s i d p ≡ plain (json_text y)
+direct_item t s i c d y p l k e null = placed_direct t (value_part (complete s t (p ++ index i ∷ []) d)) (json_text y)
     (direct_is s (p ++ index i ∷ []) t c d y l k e null)
 
 -- ---- parts one by one

@@ -9,7 +9,7 @@ use Rattle.serde_json.specs.Data as json
 use Rattle.serde_json.specs.Data.{Data}
 use Rattle.serde_json.specs.Find.{as_array, get, of_integer}
 use Rattle.serde_json.specs.View.{view}
-use Rattle.serde_json.specs.Written.{compact_text}
+use Rattle.gql_steps.specs.JsonText.{json_text}
 use Rattle.serde_json.specs.declared.value.Value.{Value}
 use Rattle.gql_steps.specs.DirectParts.{HasKind, IsDirectly, ItemsStop, ItemsWritten}
 use Rattle.gql_steps.specs.Execution.{PlannedField, Site, is_null, stored}
@@ -62,14 +62,14 @@ module _ (g : Basis) (q : Pair) (p : Path) (f : FieldPlan) (v : Value) (c : Scal
   abbrev here : Path
   here = p ++ key q.0.response_name ∷ []
 
-  direct_called : called_part (types_of g) (stored d) q here ≡ plain (compact_text y)
+  direct_called : called_part (types_of g) (stored d) q here ≡ plain (json_text y)
   direct_called = called_stored (types_of g) q here f v stands.planned given d
       ∙ source_stored (types_of g) (view v) d q here f stands.planned from
       ∙ is (site_of (types_of g) f.place q.1) here
       (sym kind ∙ stands.kind ∙ ap (λ (e : PlannedField). kind_in g.given.schema (name_in e.of_type)) stands.planned)
 
-  pub direct_content : content_part (types_of g) (stored d) q p ≡ plain (compact_text y)
-  direct_content = ap settled (placed_direct q.0.of_type (called_part (types_of g) (stored d) q here) (compact_text y) direct_called)
+  pub direct_content : content_part (types_of g) (stored d) q p ≡ plain (json_text y)
+  direct_content = ap settled (placed_direct q.0.of_type (called_part (types_of g) (stored d) q here) (json_text y) direct_called)
 
 -- ---- items
 
@@ -103,23 +103,23 @@ none_written kind t ds s = record { within = omega arith; left = omega arith; do
 
 module _ (c : Scalar) (t : Written) (list : is_list t ≡ false) (ds : List Data) (k : ℕ) (d y : Data) (s m u : Run) (within : k < length ds) (at : d ≡ get_or ds k d)
     (value : as_scalar c d ≡ Some y) (present : is_null d ≡ false) (written : ItemsWritten (named.Scalar c) t ds k s m) where
-  item_is : (x : Site) (p : Path) → HasKind (named.Scalar c) t x → item_part t x p k d ≡ after_comma k (counted (plain (compact_text y)))
+  item_is : (x : Site) (p : Path) → HasKind (named.Scalar c) t x → item_part t x p k d ≡ after_comma k (counted (plain (json_text y)))
   item_is x p h = ap (λ r. after_comma k (counted r)) (direct_item t x k c d y p list (sym h) value present)
 
-  pub item_more : (e : Ended) → Done (after_comma k (counted (plain (compact_text y)))) e m u → ItemsWritten (named.Scalar c) t ds (k + 1) s u
+  pub item_more : (e : Ended) → Done (after_comma k (counted (plain (json_text y)))) e m u → ItemsWritten (named.Scalar c) t ds (k + 1) s u
   item_more e next = record {
     within = omega (arith, within);
     left = omega (arith, written.left, next.follows.left);
     done = λ x p h. loop-more (λ q. item_part t x p) ds k d s m u within at Ends Ends (written.done x p h)
-        (subst (λ r. Done r Ends m u) (sym (item_is x p h)) (subst (λ z. Done (after_comma k (counted (plain (compact_text y)))) z m u) (item_ends k (compact_text y) e next.ends) next));
+        (subst (λ r. Done r Ends m u) (sym (item_is x p h)) (subst (λ z. Done (after_comma k (counted (plain (json_text y)))) z m u) (item_ends k (json_text y) e next.ends) next));
   }
 
-  pub item_stops : (stop : ExecRefusal) → (stop ≡ TooHeavy → m.left < (after_comma k (counted (plain (compact_text y)))).weight) → ItemsStop (named.Scalar c) t ds s stop
+  pub item_stops : (stop : ExecRefusal) → (stop ≡ TooHeavy → m.left < (after_comma k (counted (plain (json_text y)))).weight) → ItemsStop (named.Scalar c) t ds s stop
   item_stops stop heavy = λ x p h. loop-stops (λ q. item_part t x p) ds k d s m u within at Ends stop (written.done x p h)
       (λ is. subst (λ (r : Part). m.left < r.weight) (sym (item_is x p h)) (heavy is))
 
 -- the text of an integer
-pub whole_text : (z : ℤ) → compact_text (json.number (of_integer z)) ≡ signed_decimal z
+pub whole_text : (z : ℤ) → json_text (json.number (of_integer z)) ≡ signed_decimal z
 whole_text (pos n) = refl
 whole_text (negsuc n) = refl
 

@@ -19,13 +19,13 @@ use Rattle.gql_intro.specs.declared.made.IntroSchema.{IntroSchema}
 use Rattle.gql_types.specs.Schemas.{schema_of}
 use Rattle.gql_types.specs.declared.schema.Schema.{Schema}
 use Rattle.serde_json.specs.Data.{Data}
-use Rattle.serde_json.specs.Written.{compact_text}
+use Rattle.gql_steps.specs.JsonText.{json_text}
 use Rattle.gql_stored.specs.Effects.{Effect}
 use Rattle.gql_steps.specs.Execution.{answered}
 use Rattle.gql_steps.specs.Plans.{IsPlan}
 use Rattle.gql_steps.specs.Outcomes.{AnError, AnOutcome, error_of}
 use Rattle.gql_steps.specs.Replies.{Reply, kept, or_null}
-use Rattle.gql_steps.specs.Requests.{Request, Response, Executes, IsKeptOf, IsOutcome, answer_for, basis_of, IsTooHeavy, most_values, refused, executed, request_error, request_of, response_of, variable_at}
+use Rattle.gql_steps.specs.Requests.{Request, Response, Executes, IsKeptOf, IsOutcome, answer_for, basis_of, IsTooHeavy, refused, executed, request_error, request_of, response_of, variable_at}
 use Rattle.gql_steps.specs.Requests as requests
 use Rattle.gql_steps.specs.Runs.{Answering, Finishes, IsFresh, IsOutcomeOf, IsRefused, came_to, request}
 use Rattle.gql_steps.specs.States.{Done, Leaves, ended_of, errors_of}
@@ -39,11 +39,11 @@ use Rattle.gql_steps.specs.declared.run.Run.{Run}
 
 -- ---- the text of the data
 
-pub written_data : (o : Option Data) (out : List ℕ) → Leaves (outcome_text compact_text o) [] out → Written ≡ ended_of (outcome_text compact_text o) → out ≡ compact_text (or_null o)
+pub written_data : (o : Option Data) (out : List ℕ) → Leaves (outcome_text json_text o) [] out → Written ≡ ended_of (outcome_text json_text o) → out ≡ json_text (or_null o)
 written_data (Some d) out h e = h
 written_data None out h e = cc
 
-pub cut_data : (o : Option Data) (before out : List ℕ) → out ≡ take 0 before ++ codes "null" → Bubbled ≡ ended_of (outcome_text compact_text o) → out ≡ compact_text (or_null o)
+pub cut_data : (o : Option Data) (before out : List ℕ) → out ≡ take 0 before ++ codes "null" → Bubbled ≡ ended_of (outcome_text json_text o) → out ≡ json_text (or_null o)
 cut_data (Some d) before out h e = cc
 cut_data None before out h e = h
 
@@ -58,9 +58,9 @@ same_outcome a b t e f = ap (λ x. let o : AnOutcome = record { text = x; errors
 
 -- the outcome of a reply that was executed from the beginning
 outcome_is : (r : Reply Data) (e : Ended) (s u : Run) (fx : List Effect) (o : AnOutcome) → IsFresh s → Done (value_part r) e s u
-    → o.text ≡ Some (compact_text (or_null r.value)) → o.errors ≡ map (λ (x : FieldError). requests.error_of (states.error_of x)) u.errors.items → o.effects ≡ fx → IsOutcomeOf o (answered fx r)
+    → o.text ≡ Some (json_text (or_null r.value)) → o.errors ≡ map (λ (x : FieldError). requests.error_of (states.error_of x)) u.errors.items → o.effects ≡ fx → IsOutcomeOf s.left o (answered fx r)
 outcome_is r e s u fx o fresh done out errors effects = (
-  omega (arith, done.follows.left, fresh.left),
+  omega (arith, done.follows.left),
   same_outcome o (response_of (answered fx r)).outcome out
       (errors ∙ sym (errors_are u.errors.items) ∙ ap (map requests.error_of) (done.follows.errors
       ∙ ap (λ es. map states.error_of es ++ kept s.raised r.notes) fresh.errors ∙ ap (λ b. kept b r.notes) fresh.raised)) effects,
@@ -68,7 +68,7 @@ outcome_is r e s u fx o fresh done out errors effects = (
 
 pub finished_written : (u : Run) (fx : List Effect) (o : AnOutcome) → o ≡ came_to u fx → Finishes Written u fx o
 finished_written u fx o is = λ r s fresh done. outcome_is r Written s u fx o fresh done
-    (ap (λ (x : AnOutcome). x.text) is ∙ ap Some (written_data r.value u.out.items (subst (λ l. Leaves (outcome_text compact_text r.value) l u.out.items) fresh.out done.follows.out) done.ends))
+    (ap (λ (x : AnOutcome). x.text) is ∙ ap Some (written_data r.value u.out.items (subst (λ l. Leaves (outcome_text json_text r.value) l u.out.items) fresh.out done.follows.out) done.ends))
     (ap (λ (x : AnOutcome). x.errors) is) (ap (λ (x : AnOutcome). x.effects) is)
 
 pub finished_cut : (u v : Run) (fx : List Effect) (o : AnOutcome) → v.out.items ≡ take 0 u.out.items ++ codes "null" → v ≡ record u { out = v.out } → o ≡ came_to v fx → Finishes Bubbled u fx o
@@ -100,15 +100,15 @@ answers r values Holds one come h p (executed {values = others} {root = root} x 
     (h root x is object (subst (λ d. IsPlan (basis_of r d) root.name.node.text (in_file r.file r.operation.selections) x) (sym (value_same e)) plans))
 
 -- a request with a variable that is refused
-pub answers_refused : (r : Request) (f : Refusal) (o : AnOutcome) → OneOfVariables → VariablesCome r.schema r.operation.variables r.variables (comes.refused f.reason f.path)
-    → IsRefused r.operation.variables f o → IsOutcome r o
-answers_refused r f o one come h p (refused {why} {path} {v} c at) =
+pub answers_refused : (most : ℕ) (r : Request) (f : Refusal) (o : AnOutcome) → OneOfVariables → VariablesCome r.schema r.operation.variables r.variables (comes.refused f.reason f.path)
+    → IsRefused r.operation.variables f o → IsOutcome most r o
+answers_refused most r f o one come h p (refused {why} {path} {v} c at) =
     let e : comes.refused f.reason f.path ≡ comes.refused why path = one r.schema r.operation.variables r.variables (comes.refused f.reason f.path) (comes.refused why path) come c in (
       omega arith,
       h v (ap (variable_at r.operation.variables) (path_same e) ∙ at)
           ∙ ap (λ b. (request_error v b f.path).outcome) (first_same e) ∙ ap (λ q. (request_error v why q).outcome) (path_same e),
     )
-answers_refused r f o one come h p (executed {values = others} {root = root} x c is object plans) =
+answers_refused most r f o one come h p (executed {values = others} {root = root} x c is object plans) =
     let e : comes.refused f.reason f.path ≡ comes.value others = one r.schema r.operation.variables r.variables (comes.refused f.reason f.path) (comes.value others) come c in absurd (cc e)
 
 -- ---- results

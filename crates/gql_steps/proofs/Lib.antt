@@ -3,12 +3,14 @@ pub mod Asking
 pub mod Completing
 pub mod Directly
 pub mod Doing
+pub mod Doubles
 pub mod Ending
 pub mod Entries
 pub mod Enums
 pub mod Escapes
 pub mod Executing
 pub mod Grouped
+pub mod Integers
 pub mod Leaving
 pub mod Listing
 pub mod Parts

@@ -1,7 +1,9 @@
 -- What prints say of values, and of items.
 use Rattle.std.proofs.Common.{◌≡◌, ◌&&◌, ◌<◌, ◌⊎◌, inl, inr, ℕ, List, [], ◌∷◌, ◌++◌, Bool, true, false, length, map, get_or, string_bytes, All, Option, Some, None, refl, sym, ap, subst, suc, take, drop, filter, find, ◌+◌, add-one, append-nil, Bor, ◌∙◌}
-use Rattle.std.specs.Prelude.{ℤ, unsigned_abs}
+use Rattle.std.specs.Prelude.{ℤ, pos, ◌^◌, nat_lt, if◌then◌else◌}
 use Rattle.std.specs.Bool.{beq}
+use Rattle.std.specs.Float.{binary64}
+use Rattle.std.specs.Float.Ieee.{of_int}
 use Rattle.std.proofs.lemmas.Bool.Decides.{Decides-int_eq}
 use Rattle.std.proofs.lemmas.Slice.Eq.{bytes_eq-Decides}
 use Rattle.std.proofs.lemmas.List.{get_or-map, length-map, map-append, take_more}
@@ -9,19 +11,34 @@ use Rattle.std.proofs.lemmas.List.Elements.{All-push, filter-append}
 use Rattle.std.proofs.Math.Seq.{drop-cons}
 use Rattle.serde_json.specs.Data as json
 use Rattle.serde_json.specs.Data.{Data, Num, Items, Members}
-use Rattle.serde_json.specs.Find.{as_i64}
+use Rattle.serde_json.specs.Find.{as_i64, to_float}
 use Rattle.serde_json.specs.View.{items_view, view}
 use Rattle.serde_json.specs.declared.value.Value.{Value}
-use Rattle.gql_steps.specs.Resolution.{has_members, meets, member_or_null, same_data, same_integer}
-use Rattle.gql_steps.specs.Columns.{IsColumnOf, IsTestOf, items_in, print_of, print_of_integer, print_of_text, prints_in}
+use Rattle.gql_steps.specs.Resolution.{has_members, meets, member_or_null, same_by, same_data, same_number}
+use Rattle.gql_steps.specs.Columns.{IsColumnOf, IsTestOf, items_in, print_of, print_of_real, print_of_text, prints_in}
 use Rattle.gql_steps.specs.declared.columns.Column.{Column}
 use Rattle.gql_steps.specs.declared.filter.Test.{Test}
+use Rattle.gql_steps.proofs.Doubles.{same_reals}
 use Rattle.gql_steps.proofs.Resolving.{listed}
 
-same_integers : (a b : Option ℤ) → same_integer a b ≡ true → print_of_integer a ≡ print_of_integer b
-same_integers (Some a) (Some b) e = ap unsigned_abs ((Decides-int_eq a b).0 e)
-same_integers (Some a) None e = cc
-same_integers None b e = cc
+-- the double of an integer of 64 bits
+small_real : (n : ℕ) (z : ℤ) (b : Bool) → (if b then Some (pos n) else None) ≡ Some z → of_int binary64 (pos n) ≡ of_int binary64 z
+small_real n z true is = let same : pos n ≡ z = cc is in ap (of_int binary64) same
+small_real n z false is = absurd (cc is)
+
+whole_real : (n : Num) (z : ℤ) → as_i64 n ≡ Some z → to_float n ≡ of_int binary64 z
+whole_real (json.unsigned n) z e = small_real n z (nat_lt n (2 ^ 63)) e
+whole_real (json.negative y) z e = let same : y ≡ z = cc e in ap (of_int binary64) same
+whole_real (json.float x) z e = absurd (cc e)
+
+-- numbers that are the same have the same print
+same_numbers : (a b : Num) → same_number a b ≡ true → print_of_real (to_float a) ≡ print_of_real (to_float b)
+same_numbers a b e = by (as_i64 a) (as_i64 b) refl refl e where
+  by : (o p : Option ℤ) → as_i64 a ≡ o → as_i64 b ≡ p → same_by a b o p ≡ true → print_of_real (to_float a) ≡ print_of_real (to_float b)
+  by (Some x) (Some y) is also same =
+      ap print_of_real (whole_real a x is ∙ ap (of_int binary64) ((Decides-int_eq x y).0 same) ∙ sym (whole_real b y also))
+  by (Some x) None is also same = same_reals (to_float a) (to_float b) same
+  by None p is also same = same_reals (to_float a) (to_float b) same
 
 same_truths : (a b : Bool) → beq a b ≡ true → print_of (json.boolean a) ≡ print_of (json.boolean b)
 same_truths true true e = refl
@@ -45,7 +62,7 @@ same_prints (json.boolean x) (json.array y) e = cc
 same_prints (json.boolean x) (json.object y) e = cc
 same_prints (json.number x) json.null e = cc
 same_prints (json.number x) (json.boolean y) e = cc
-same_prints (json.number x) (json.number y) e = same_integers (as_i64 x) (as_i64 y) e
+same_prints (json.number x) (json.number y) e = same_numbers x y e
 same_prints (json.number x) (json.string y) e = cc
 same_prints (json.number x) (json.array y) e = cc
 same_prints (json.number x) (json.object y) e = cc

@@ -7,7 +7,7 @@ use Rattle.gql_types.specs.Written.{Written}
 use Rattle.serde_json.specs.Data as json
 use Rattle.serde_json.specs.Data.{Data}
 use Rattle.serde_json.specs.View.{items_of}
-use Rattle.serde_json.specs.Written.{compact_text, items_text, members_text}
+use Rattle.gql_steps.specs.JsonText.{items_text, json_text, members_text}
 use Rattle.gql_steps.specs.Execution.{Object, PlannedField, Types, Site, Below, members_of, executed, items_from, list_reply, placed, value_of}
 use Rattle.gql_steps.specs.Parts.{Outcome, text, bubble, Part, joined, followed_by, plain, one, comma, after_comma, comma_list, all, numbered, within}
 use Rattle.gql_steps.specs.Parts as part
@@ -89,7 +89,7 @@ settled_part r = refl
 
 caught_part : (r : Reply Data) → value_part (reply.caught r) ≡ part.caught (value_part r)
 caught_part r = same_part _ _ (by r.value) refl refl where
-  by : (o : Option Data) → outcome_text compact_text (Some (reply.or_null o)) ≡ part.or_null (outcome_text compact_text o)
+  by : (o : Option Data) → outcome_text json_text (Some (reply.or_null o)) ≡ part.or_null (outcome_text json_text o)
   by (Some d) = refl
   by None = refl
 
@@ -101,10 +101,10 @@ placed_is t r = by (is_non_null t) where
 
 -- ---- brackets
 
-wrapped : {A : Type 0} (before after : List ℕ) (f : A → List ℕ) (m : A → Data) → ((a : A) → compact_text (m a) ≡ (before ++ f a) ++ after)
+wrapped : {A : Type 0} (before after : List ℕ) (f : A → List ℕ) (m : A → Data) → ((a : A) → json_text (m a) ≡ (before ++ f a) ++ after)
     → (r : Reply A) → value_part (reply.mapped m r) ≡ within before (texted f r) after
 wrapped {A} before after f m e r = same_part _ _ (held r.value) (sym (append-nil r.notes)) (omega arith) where
-  held : (y : Option A) → outcome_text compact_text (reply.in_option m y) ≡ joined (joined (text before) (outcome_text f y)) (text after)
+  held : (y : Option A) → outcome_text json_text (reply.in_option m y) ≡ joined (joined (text before) (outcome_text f y)) (text after)
   held (Some a) = ap text (e a)
   held None = refl
 
@@ -113,20 +113,20 @@ comma_later zero h = absurd (omega arith)
 comma_later (suc n) h = refl
 
 -- where items stand before
-items_later : (n : ℕ) (ds : List Data) → 0 < n → items_text true (items_of ds) ≡ listed_text compact_text n ds ++ codes "]"
+items_later : (n : ℕ) (ds : List Data) → 0 < n → items_text true (items_of ds) ≡ listed_text json_text n ds ++ codes "]"
 items_later n [] h = refl
-items_later n (d ∷ ds) h = ap (λ l. 44 ∷ (compact_text d ++ l)) (items_later (n + 1) ds (omega arith))
-    ∙ ap (λ l. 44 ∷ l) (sym (append_assoc (compact_text d) (listed_text compact_text (n + 1) ds) (codes "]")))
-    ∙ ap (λ c. ((c ++ compact_text d) ++ listed_text compact_text (n + 1) ds) ++ codes "]") (sym (comma_later n h))
+items_later n (d ∷ ds) h = ap (λ l. 44 ∷ (json_text d ++ l)) (items_later (n + 1) ds (omega arith))
+    ∙ ap (λ l. 44 ∷ l) (sym (append_assoc (json_text d) (listed_text json_text (n + 1) ds) (codes "]")))
+    ∙ ap (λ c. ((c ++ json_text d) ++ listed_text json_text (n + 1) ds) ++ codes "]") (sym (comma_later n h))
 
-items_first : (ds : List Data) → items_text false (items_of ds) ≡ listed_text compact_text 0 ds ++ codes "]"
+items_first : (ds : List Data) → items_text false (items_of ds) ≡ listed_text json_text 0 ds ++ codes "]"
 items_first [] = refl
-items_first (d ∷ ds) = ap (λ l. compact_text d ++ l) (items_later 1 ds (omega arith))
-    ∙ sym (append_assoc (compact_text d) (listed_text compact_text 1 ds) (codes "]"))
+items_first (d ∷ ds) = ap (λ l. json_text d ++ l) (items_later 1 ds (omega arith))
+    ∙ sym (append_assoc (json_text d) (listed_text json_text 1 ds) (codes "]"))
 
-one_member : (k : List ℕ) (d : Data) (rest : List ℕ) → quoted k ++ 58 ∷ (compact_text d ++ rest) ≡ member_text (k, d) ++ rest
-one_member k d rest = sym (ap (λ l. l ++ rest) (append_assoc (quoted k) (codes ":") (compact_text d))
-    ∙ append_assoc (quoted k) (58 ∷ compact_text d) rest)
+one_member : (k : List ℕ) (d : Data) (rest : List ℕ) → quoted k ++ 58 ∷ (json_text d ++ rest) ≡ member_text (k, d) ++ rest
+one_member k d rest = sym (ap (λ l. l ++ rest) (append_assoc (quoted k) (codes ":") (json_text d))
+    ∙ append_assoc (quoted k) (58 ∷ json_text d) rest)
 
 members_later : (n : ℕ) (ms : List (List ℕ × Data)) → 0 < n → members_text true (members_of ms) ≡ listed_text member_text n ms ++ codes "}"
 members_later n [] h = refl
@@ -144,11 +144,11 @@ members_first (m ∷ ms) = one_member m.0 m.1 (members_text true (members_of ms)
 -- ---- lists
 
 items_part : {A : Type 0} (each : Path → A → Reply Data) (i : ℕ) (p : Path) (ds : List A)
-    → texted (listed_text compact_text i) (reply.all (items_from each i p ds))
+    → texted (listed_text json_text i) (reply.all (items_from each i p ds))
     ≡ all (numbered (λ j x. after_comma j (part.counted (value_part (each (p ++ index j ∷ []) x)))) i ds)
 items_part each i p [] = refl
 items_part each i p (d ∷ ds) =
-    one_more compact_text i (each (p ++ index i ∷ []) d) (items_from each (i + 1) p ds)
+    one_more json_text i (each (p ++ index i ∷ []) d) (items_from each (i + 1) p ds)
     ∙ ap (followed_by (after_comma i (part.counted (value_part (each (p ++ index i ∷ []) d))))) (items_part each (i + 1) p ds)
     ∙ sym (all-first (after_comma i (part.counted (value_part (each (p ++ index i ∷ []) d))))
     (numbered (λ j x. after_comma j (part.counted (value_part (each (p ++ index j ∷ []) x)))) (i + 1) ds))
@@ -158,7 +158,7 @@ pub list_part : {A : Type 0} (each : Path → A → Reply Data) (p : Path) (ds :
     → value_part (list_reply each p ds)
     ≡ within (codes "[") (comma_list (λ i x. part.counted (value_part (each (p ++ index i ∷ []) x))) ds) (codes "]")
 list_part each p ds =
-    wrapped (codes "[") (codes "]") (listed_text compact_text 0) (λ xs. json.array (items_of xs))
+    wrapped (codes "[") (codes "]") (listed_text json_text 0) (λ xs. json.array (items_of xs))
     (λ xs. ap (λ l. 91 ∷ l) (items_first xs)) (reply.all (items_from each 0 p ds))
     ∙ ap (λ r. within (codes "[") r (codes "]")) (items_part each 0 p ds)
 
@@ -188,7 +188,7 @@ pub labelled : (k : List ℕ) (r : Reply Data)
     → texted member_text (reply.mapped (λ v. (k, v)) r) ≡ followed_by (plain (quoted k ++ codes ":")) (value_part r)
 labelled k r = same_part _ _ (held r.value) refl (omega arith) where
   held : (y : Option Data) → outcome_text member_text (reply.in_option (λ v. (k, v)) y)
-      ≡ joined (text (quoted k ++ codes ":")) (outcome_text compact_text y)
+      ≡ joined (text (quoted k ++ codes ":")) (outcome_text json_text y)
   held (Some d) = refl
   held None = refl
 

@@ -1,13 +1,31 @@
 -- The text of lists and objects, one part after the other.
-use Rattle.std.proofs.Common.{◌≡◌, ℕ, List, [], ◌∷◌, ◌++◌, Bool, Option, Some, Vec, Global, false, true, reverse, sym, ap, ◌∙◌, append_assoc}
+use Rattle.std.proofs.Common.{◌≡◌, ℕ, List, [], ◌∷◌, ◌++◌, Bool, Float, Option, Some, None, Vec, Global, false, true, reverse, refl, sym, ap, ◌∙◌, append_assoc, append-nil}
 use Rattle.std.proofs.lemmas.List.{reverse-append}
+use Rattle.std.specs.Float.{float_is_finite}
+use Rattle.std.specs.Float.Ieee.{nan, inf, fin}
+use Rattle.gql_numbers.specs.Doubles.{double_text}
 use Rattle.json.specs.Print.{quoted}
-use Rattle.serde_json.specs.Data.{Data, Members, member}
-use Rattle.serde_json.specs.Written.{comma_if, compact_text, members_text}
+use Rattle.serde_json.specs.Data.{Data, Num, unsigned, negative, float, Members, member}
+use Rattle.serde_json.specs.Find.{as_i64, as_u64, to_float}
+use Rattle.serde_json.specs.Written.{comma_if}
+use Rattle.gql_steps.specs.JsonText.{json_text, members_text, number_text}
 use Rattle.gql_steps.specs.WriteFrames.{inner_text, rest_text, step_text, waiting_text}
 use Rattle.gql_steps.specs.declared.values.TextFrame.{TextFrame}
 use Rattle.gql_steps.specs.declared.values.TextStep.{TextStep}
 use Rattle.gql_steps.specs.declared.values.TextStep.TheVariants as step
+
+-- a double that is not finite has no text
+pub no_double : (out : List ℕ) (x : Float) → float_is_finite x ≡ false → out ≡ out ++ double_text x
+unfolding float_is_finite
+no_double out nan e = sym (append-nil out)
+no_double out (inf s) e = sym (append-nil out)
+no_double out (fin s m k) e = absurd (cc e)
+
+-- a number that is no integer is a double
+pub real_text : (n : Num) → as_u64 n ≡ None → as_i64 n ≡ None → number_text n ≡ double_text (to_float n)
+real_text (unsigned n) e h = absurd (cc e)
+real_text (negative z) e h = absurd (cc h)
+real_text (float x) e h = refl
 
 -- one frame more on the stack
 one_more_waits : (fs : List TextFrame) (f : TextFrame) → waiting_text (reverse (fs ++ f ∷ [])) ≡ rest_text true f ++ waiting_text (reverse fs)
@@ -52,9 +70,9 @@ module _ (old new : List TextFrame) where
 
 -- the name of a member is written
 pub member_begun : (later : Bool) (k : List ℕ) (d : Data) (ms : Members) (out a b c : List ℕ) → a ≡ out ++ comma_if later → b ≡ a ++ quoted k → c ≡ b ++ 58 ∷ []
-    → c ++ (compact_text d ++ members_text true ms) ≡ out ++ members_text later (member k d ms)
+    → c ++ (json_text d ++ members_text true ms) ≡ out ++ members_text later (member k d ms)
 member_begun later k d ms out a b c first second third =
-    ap (λ x. x ++ (compact_text d ++ members_text true ms)) third ∙ append_assoc b (58 ∷ []) (compact_text d ++ members_text true ms)
-    ∙ ap (λ x. x ++ 58 ∷ (compact_text d ++ members_text true ms)) second ∙ append_assoc a (quoted k) (58 ∷ (compact_text d ++ members_text true ms))
-    ∙ ap (λ x. x ++ (quoted k ++ 58 ∷ (compact_text d ++ members_text true ms))) first
-    ∙ append_assoc out (comma_if later) (quoted k ++ 58 ∷ (compact_text d ++ members_text true ms))
+    ap (λ x. x ++ (json_text d ++ members_text true ms)) third ∙ append_assoc b (58 ∷ []) (json_text d ++ members_text true ms)
+    ∙ ap (λ x. x ++ 58 ∷ (json_text d ++ members_text true ms)) second ∙ append_assoc a (quoted k) (58 ∷ (json_text d ++ members_text true ms))
+    ∙ ap (λ x. x ++ (quoted k ++ 58 ∷ (json_text d ++ members_text true ms))) first
+    ∙ append_assoc out (comma_if later) (quoted k ++ 58 ∷ (json_text d ++ members_text true ms))

@@ -1,10 +1,11 @@
 -- Helper definitions for private contracts: prints, by which most values that differ are told apart,
 -- and columns of prints, by which items that do not meet arguments are passed over.
-use Rattle.std.specs.Prelude.{◌≡◌, ℕ, ℤ, ◌+◌, ◌*◌, ◌-◌, ◌%◌, ◌^◌, ◌<◌, ◌≢◌, List, [], map, fold, length, slice_index_or, unsigned_abs, false, if◌then◌else◌, Option, Some, None, string_bytes}
+use Rattle.std.specs.Prelude.{◌≡◌, ℕ, ◌+◌, ◌*◌, ◌-◌, ◌%◌, ◌^◌, ◌<◌, ◌≢◌, List, [], map, fold, length, slice_index_or, to_bits, false, Float, if◌then◌else◌, string_bytes}
+use Rattle.std.specs.Float.{binary64, merge_zeros}
 use Rattle.std.specs.List.{All}
 use Rattle.serde_json.specs.Data as json
 use Rattle.serde_json.specs.Data.{Data, Members}
-use Rattle.serde_json.specs.Find.{as_i64}
+use Rattle.serde_json.specs.Find.{to_float}
 use Rattle.serde_json.specs.View.{view}
 use Rattle.gql_steps.specs.Resolution.{list_of, meets, member_or_null}
 use Rattle.gql_steps.specs.declared.columns.Column.{Column}
@@ -26,16 +27,15 @@ print_of_text text = fold mixed (length text) text
 abbrev pub other_print : ℕ
 other_print = 2 ^ 64 - 4
 
--- the print of an integer, or of a number that is none
-abbrev pub print_of_integer : Option ℤ → ℕ
-print_of_integer (Some whole) = unsigned_abs whole
-print_of_integer None = other_print
+-- the print of a double: its bits, and those of 0 for -0
+abbrev pub print_of_real : Float → ℕ
+print_of_real x = merge_zeros binary64 (to_bits binary64 x)
 
 -- the print of a value; values that are the same have the same one
 abbrev pub print_of : Data → ℕ
 print_of json.null = 2 ^ 64 - 1
 print_of (json.boolean truth) = if truth then 2 ^ 64 - 2 else 2 ^ 64 - 3
-print_of (json.number n) = print_of_integer (as_i64 n)
+print_of (json.number n) = print_of_real (to_float n)
 print_of (json.string text) = print_of_text text
 print_of _ = other_print
 

@@ -4,7 +4,7 @@ use Rattle.gql_inputs.specs.InputTypes.{is_list, name_in}
 use Rattle.gql_inputs.specs.declared.scalar.Scalar.{Scalar}
 use Rattle.gql_types.specs.Written.{Written}
 use Rattle.serde_json.specs.Data.{Data}
-use Rattle.serde_json.specs.Written.{compact_text}
+use Rattle.gql_steps.specs.JsonText.{json_text}
 use Rattle.gql_steps.specs.Execution.{Object, Site, complete}
 use Rattle.gql_steps.specs.Kinds.{kind_from}
 use Rattle.gql_steps.specs.Parts.{all, numbered, plain}
@@ -29,12 +29,12 @@ HasKind kind t s = kind ≡ kind_from (name_in t) (s.types.kind (name_in t))
 -- where the type t has values of this scalar, d is completed to y, without errors
 abbrev pub IsDirectly : Scalar → Written → Data → Data → Type 0
 IsDirectly c t d y = (s : Site) → (p : Path) → HasKind (named.Scalar c) t s
-    → value_part (complete s t p d) ≡ plain (compact_text y)
+    → value_part (complete s t p d) ≡ plain (json_text y)
 
 -- in this object, the field f has the value y, of which the text alone is written
 abbrev pub IsDirectField : FieldPlan → Object → Data → Type 0
 IsDirectField f o y = (g : Basis) → (q : Pair) → (p : Path) → StandsFor g f q
-    → content_part (types_of g) o q p ≡ plain (compact_text y)
+    → content_part (types_of g) o q p ≡ plain (json_text y)
 
 -- the first k of these items are written, in places of the type t whose values are of this kind
 pub record ItemsWritten (kind : ValueKind) (t : Written) (ds : List Data) (k : ℕ) (old new : Run)

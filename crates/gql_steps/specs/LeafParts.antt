@@ -2,7 +2,7 @@
 use Rattle.std.specs.Prelude.{ℕ, List, ◌++◌, codes, Option, Some, None}
 use Rattle.gql_text.specs.declared.place.Place.{Place}
 use Rattle.serde_json.specs.Data.{Data}
-use Rattle.serde_json.specs.Written.{compact_text}
+use Rattle.gql_steps.specs.JsonText.{json_text}
 use Rattle.gql_steps.specs.Parts.{Part, plain, raise}
 use Rattle.gql_steps.specs.Replies.{Path}
 use Rattle.gql_steps.specs.declared.leaves.Leaf.{Leaf}
@@ -10,7 +10,7 @@ use Rattle.gql_steps.specs.declared.leaves.Leaf.{Leaf}
 -- what is written for the value of a leaf, or for the error that there is none of the type of this
 -- name
 abbrev pub leaf_at : List ℕ → Place → Path → Option Data → Part
-leaf_at name place path (Some d) = plain (compact_text d)
+leaf_at name place path (Some d) = plain (json_text d)
 leaf_at name place path None = raise (record {
   message = codes "value is not of type " ++ name;
   place = place;

@@ -5,10 +5,13 @@ pub mod DirectParts
 pub mod Ended
 pub mod Examples
 pub mod Execution
+pub mod JsonText
 pub mod Kinds
+pub mod Laws
 pub mod LeafParts
 pub mod Leaves
 pub mod MutationExamples
+pub mod NumberExamples
 pub mod Objects
 pub mod Outcomes
 pub mod PairFrames

@@ -24,7 +24,7 @@ use Rattle.gql_types.specs.declared.schema.Schema.{Schema}
 use Rattle.serde_json.specs.Data as json
 use Rattle.serde_json.specs.Data.{Data}
 use Rattle.serde_json.specs.Find.{get}
-use Rattle.serde_json.specs.Written.{compact_text}
+use Rattle.gql_steps.specs.JsonText.{json_text}
 use Rattle.gql_steps.specs.Execution.{Answer, Plan, answer, mutation_answer}
 use Rattle.gql_steps.specs.Outcomes.{AnError, AnOutcome}
 use Rattle.gql_steps.specs.Plans.{Basis, IsPlan, refusal_text, types_of}
@@ -89,7 +89,7 @@ initial_value kind stored = unwrap_or (get (root_member kind) stored) (json.obje
 abbrev pub response_of : Answer → Response
 response_of a = record {
   outcome = record {
-    text = Some (compact_text a.value);
+    text = Some (json_text a.value);
     errors = map error_of a.errors;
     effects = a.effects;
   };
@@ -132,10 +132,6 @@ pub data Executes (r : Request) : Response → Type 0 where
 
 -- ---- calls
 
--- the greatest number of values that are completed
-abbrev pub most_values : ℕ
-most_values = 100000
-
 -- What a caller keeps of files from one execution to the next: their schema, what introspection
 -- makes of it, and the fragments of the documents.
 pub record IsKeptOf (files : Files) (s : Schema) (i : IntroSchema) (fs : List FragmentFact)
@@ -165,10 +161,10 @@ IsNoOperation d = (operation : Operation) → d.tree ≢ tree.Operation operatio
 abbrev pub no_outcome : AnOutcome
 no_outcome = record { text = None; errors = []; effects = [] }
 
--- the outcome of a request, of which at most `most_values` values are completed
-abbrev pub IsOutcome : Request → AnOutcome → Type 0
-IsOutcome r o = (p : Response) → Executes r p → (p.weight ≤ most_values) × (o ≡ p.outcome)
+-- the outcome of a request, of which no more values are completed than this number
+abbrev pub IsOutcome : ℕ → Request → AnOutcome → Type 0
+IsOutcome most r o = (p : Response) → Executes r p → (p.weight ≤ most) × (o ≡ p.outcome)
 
--- the request has more values to complete than `most_values`
-abbrev pub IsTooHeavy : Request → Type 0
-IsTooHeavy r = (p : Response) → Executes r p → most_values < p.weight
+-- the request has more values to complete than this number
+abbrev pub IsTooHeavy : ℕ → Request → Type 0
+IsTooHeavy most r = (p : Response) → Executes r p → most < p.weight

@@ -2,27 +2,33 @@
 -- registry's own rule.
 use Rattle.std.specs.Prelude.{ℕ, ℤ, ◌&&◌, List, [], ◌∷◌, Bool, true, false, bytes_eq, filter, Option, Some, unwrap_or, if◌then◌else◌}
 use Rattle.std.specs.Bool.{beq}
+use Rattle.std.specs.Float.Ieee.{eq}
 use Rattle.std.specs.Ordering.{int_eq}
 use Rattle.gql_inputs.specs.InputTypes.{is_list}
 use Rattle.gql_types.specs.Written.{Written}
 use Rattle.serde_json.specs.Data as json
 use Rattle.serde_json.specs.Data.{Data, Num, Items, no_items, item, Members, no_members, member}
-use Rattle.serde_json.specs.Find.{get, as_i64}
+use Rattle.serde_json.specs.Find.{get, as_i64, to_float}
 use Rattle.serde_json.specs.View.{items_of}
 
 -- ---- values that are the same
 
--- whether two integers are the same
-abbrev pub same_integer : Option ℤ → Option ℤ → Bool
-same_integer (Some a) (Some b) = int_eq a b
-same_integer _ _ = false
+-- whether two numbers, which are these integers if they are integers of 64 bits, are the same
+abbrev pub same_by : Num → Num → Option ℤ → Option ℤ → Bool
+same_by a b (Some x) (Some y) = int_eq x y
+same_by a b _ _ = eq (to_float a) (to_float b)
+
+-- whether two numbers are the same: two integers of 64 bits as integers, others by the doubles
+-- nearest to them, so that 1 and 1.0 are the same
+abbrev pub same_number : Num → Num → Bool
+same_number a b = same_by a b (as_i64 a) (as_i64 b)
 
 -- whether two values are the same; the members of an object are in the order of their keys
 abbrev mutual
   pub same_data : Data → Data → Bool
   same_data json.null json.null = true
   same_data (json.boolean a) (json.boolean b) = beq a b
-  same_data (json.number a) (json.number b) = same_integer (as_i64 a) (as_i64 b)
+  same_data (json.number a) (json.number b) = same_number a b
   same_data (json.string a) (json.string b) = bytes_eq a b
   same_data (json.array a) (json.array b) = same_items a b
   same_data (json.object a) (json.object b) = same_members a b

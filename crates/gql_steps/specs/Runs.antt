@@ -18,7 +18,7 @@ use Rattle.gql_steps.specs.Outcomes.{AnOutcome}
 use Rattle.gql_steps.specs.Plans.{Basis, IsPlan}
 use Rattle.gql_steps.specs.Replies.{Reply}
 use Rattle.gql_steps.specs.Requests as requests
-use Rattle.gql_steps.specs.Requests.{Request, answer_for, most_values, request_error, response_of, variable_at}
+use Rattle.gql_steps.specs.Requests.{Request, answer_for, request_error, response_of, variable_at}
 use Rattle.gql_steps.specs.States as states
 use Rattle.gql_steps.specs.States.{Done}
 use Rattle.gql_steps.specs.Texts.{value_part}
@@ -47,9 +47,9 @@ Answering g file operation stored Holds = (root : Root) → (x : Plan)
     → IsPlan g root.name.node.text (in_file file operation.selections) x
     → Holds (answer_for operation.kind g x root.name.node.text stored)
 
--- the outcome of an answer, of which at most `most_values` values are completed
-abbrev pub IsOutcomeOf : AnOutcome → Answer → Type 0
-IsOutcomeOf o a = (a.weight ≤ most_values) × (o ≡ (response_of a).outcome)
+-- the outcome of an answer, of which no more values are completed than this number
+abbrev pub IsOutcomeOf : ℕ → AnOutcome → Answer → Type 0
+IsOutcomeOf most o a = (a.weight ≤ most) × (o ≡ (response_of a).outcome)
 
 -- the outcome of a variable that is refused
 abbrev pub IsRefused : List VariableDefinition → Refusal → AnOutcome → Type 0
@@ -64,7 +64,6 @@ pub record IsFresh (s : Run) : Type 0 where
   pub out : s.out.items ≡ []
   pub errors : s.errors.items ≡ []
   pub raised : s.raised ≡ false
-  pub left : s.left ≡ most_values
 
 -- the text and the errors that a run has written, with these effects
 abbrev pub came_to : Run → List Effect → AnOutcome
@@ -74,7 +73,8 @@ came_to u effects = record {
   effects = effects;
 }
 
--- a run that began fresh and has ended in this way comes to this outcome, with these effects
+-- a run that began fresh and has ended in this way comes to this outcome, with these effects: of
+-- no more values than were left at its beginning
 abbrev pub Finishes : Ended → Run → List Effect → AnOutcome → Type 0
 Finishes ended u effects o = (r : Reply Data) → (s : Run) → IsFresh s
-    → Done (value_part r) ended s u → IsOutcomeOf o (answered effects r)
+    → Done (value_part r) ended s u → IsOutcomeOf s.left o (answered effects r)

@@ -2,7 +2,7 @@
 use Rattle.std.specs.Prelude.{ℕ, zero, suc, ◌+◌, List, [], ◌∷◌, ◌++◌, codes, Option, Some, None}
 use Rattle.json.specs.Print.{quoted}
 use Rattle.serde_json.specs.Data.{Data}
-use Rattle.serde_json.specs.Written.{compact_text}
+use Rattle.gql_steps.specs.JsonText.{json_text}
 use Rattle.gql_steps.specs.Parts.{Outcome, text, bubble, Part}
 use Rattle.gql_steps.specs.Replies.{Reply}
 
@@ -17,11 +17,11 @@ texted f r = record { outcome = outcome_text f r.value; notes = r.notes; weight 
 
 -- what is written for a value
 abbrev pub value_part : Reply Data → Part
-value_part r = texted compact_text r
+value_part r = texted json_text r
 
 -- a member of an object
 abbrev pub member_text : List ℕ × Data → List ℕ
-member_text m = (quoted m.0 ++ codes ":") ++ compact_text m.1
+member_text m = (quoted m.0 ++ codes ":") ++ json_text m.1
 
 -- a comma before the text of this number; before the first there is none
 abbrev pub comma_at : ℕ → List ℕ

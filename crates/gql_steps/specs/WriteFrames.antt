@@ -2,7 +2,7 @@
 -- text is written.
 use Rattle.std.specs.Prelude.{ℕ, List, [], ◌∷◌, ◌++◌, Bool, true, false, Option, Some, None}
 use Rattle.serde_json.specs.View.{items_view, members_view}
-use Rattle.serde_json.specs.Written.{items_text, members_text}
+use Rattle.gql_steps.specs.JsonText.{items_text, members_text}
 use Rattle.gql_steps.specs.declared.values.TextFrame.{TextFrame}
 use Rattle.gql_steps.specs.declared.values.TextFrame.TheVariants as frame
 use Rattle.gql_steps.specs.declared.values.TextStep.{TextStep}

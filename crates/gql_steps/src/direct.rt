@@ -5,7 +5,7 @@ ghost use Rattle.gql_types.specs.Written.{written};
 ghost use Rattle.serde_json.specs.Data as json;
 ghost use Rattle.serde_json.specs.Find.{as_array, of_integer};
 ghost use Rattle.serde_json.specs.View.{view};
-ghost use Rattle.serde_json.specs.Written.{compact_text};
+ghost use Rattle.gql_steps.specs.JsonText.{json_text};
 ghost use Rattle.gql_steps.specs.Direct.{IsDirect, data_of};
 ghost use Rattle.gql_steps.specs.Execution.{is_null};
 ghost use Rattle.gql_steps.specs.Leaves as spec;
@@ -124,7 +124,7 @@ pub fn direct_value<'v>(kind: ValueKind, of_type: &TypeRef, value: &'v Value) ->
 
 /// Writes a value of a built-in scalar, or null.
 pub fn write_direct(run: &mut Run<'_>, direct: Direct<'_>) -> Result<Ended, ExecRefusal>
-    ensures { Executes (plain (compact_text (data_of direct.entry))) result run.old run.new }
+    ensures { Executes (plain (json_text (data_of direct.entry))) result run.old run.new }
 {
     match direct {
         Direct::Null => write(run, b"null")?,

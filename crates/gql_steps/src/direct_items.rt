@@ -6,7 +6,7 @@ ghost use Rattle.gql_inputs.specs.declared.scalar.Scalar.TheVariants.{Int as The
 ghost use Rattle.gql_types.specs.Written.{written};
 ghost use Rattle.serde_json.specs.Data.{number};
 ghost use Rattle.serde_json.specs.Find.{of_integer};
-ghost use Rattle.serde_json.specs.Written.{compact_text};
+ghost use Rattle.gql_steps.specs.JsonText.{json_text};
 ghost use Rattle.gql_steps.specs.Direct.{data_of};
 ghost use Rattle.gql_steps.specs.DirectParts.{ItemsStop, ItemsWritten, ScalarsStop, ScalarsWritten};
 ghost use Rattle.gql_steps.specs.Parts.{after_comma, counted, plain};
@@ -54,7 +54,7 @@ fn write_next_whole(run: &mut Run<'_>, whole: i64) -> Result<(), ExecRefusal>
 /// Writes an integer of a list, with its comma.
 #[inline(always)]
 fn write_whole_item(run: &mut Run<'_>, i: usize, whole: i64) -> Result<Ended, ExecRefusal>
-    ensures { Executes (after_comma i (counted (plain (compact_text (number (of_integer whole))))))
+    ensures { Executes (after_comma i (counted (plain (json_text (number (of_integer whole))))))
         result run.old run.new }
 {
     count(run)?;
@@ -69,7 +69,7 @@ fn write_whole_item(run: &mut Run<'_>, i: usize, whole: i64) -> Result<Ended, Ex
 /// Writes a value of a list, with its comma.
 #[inline(always)]
 fn write_direct_item(run: &mut Run<'_>, i: usize, direct: Direct<'_>) -> Result<Ended, ExecRefusal>
-    ensures { Executes (after_comma i (counted (plain (compact_text (data_of direct.entry)))))
+    ensures { Executes (after_comma i (counted (plain (json_text (data_of direct.entry)))))
         result run.old run.new }
 {
     write_comma(run, i)?;

@@ -9,7 +9,7 @@ ghost use Rattle.gql_intro.specs.Introspection.{location_name as name_of_locatio
 ghost use Rattle.serde_json.specs.Data.{boolean};
 ghost use Rattle.serde_json.specs.Find.{as_bool, as_str, get};
 ghost use Rattle.serde_json.specs.View.{view};
-ghost use Rattle.serde_json.specs.Written.{compact_text};
+ghost use Rattle.gql_steps.specs.JsonText.{json_text};
 ghost use Rattle.gql_steps.specs.Objects.{basis};
 ghost use Rattle.gql_steps.specs.Parts.{plain};
 ghost use Rattle.gql_steps.specs.Plans as plans;
@@ -88,7 +88,7 @@ pub fn write_name(run: &mut Run<'_>, name: &str) -> Result<Ended, ExecRefusal>
 
 /// Writes `true` or `false`.
 pub fn write_flag(run: &mut Run<'_>, flag: bool) -> Result<Ended, ExecRefusal>
-    ensures { Executes (plain (compact_text (boolean flag))) result run.old run.new }
+    ensures { Executes (plain (json_text (boolean flag))) result run.old run.new }
 {
     write_truth(run, flag)?;
     Ok(Ended::Written)

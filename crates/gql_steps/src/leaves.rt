@@ -2,7 +2,7 @@
 ghost use Rattle.std.specs.Prelude.{◌≡◌, None, OnOk, IfErr};
 ghost use Rattle.serde_json.specs.Data.{boolean};
 ghost use Rattle.serde_json.specs.View.{view};
-ghost use Rattle.serde_json.specs.Written.{compact_text};
+ghost use Rattle.gql_steps.specs.JsonText.{json_text};
 ghost use Rattle.gql_steps.specs.Leaves as spec;
 ghost use Rattle.gql_steps.specs.LeafParts.{leaf_part};
 ghost use Rattle.gql_steps.specs.Parts.{plain};
@@ -119,7 +119,7 @@ fn complete_string(
 
 /// Writes `true` or `false`.
 pub fn write_truth(run: &mut Run<'_>, truth: bool) -> Result<(), ExecRefusal>
-    ensures follows { OnOk result (Follows (plain (compact_text (boolean truth))) run.old run.new) }
+    ensures follows { OnOk result (Follows (plain (json_text (boolean truth))) run.old run.new) }
     ensures err { IfErr result (λ e. e ≡ ExecRefusal.Memory) }
 {
     if truth {
@@ -150,7 +150,7 @@ fn complete_boolean(
 
 /// Writes a value as it is.
 fn complete_any(run: &mut Run<'_>, value: &Value) -> Result<Ended, ExecRefusal>
-    ensures { Executes (plain (compact_text (view value.now))) result run.old run.new }
+    ensures { Executes (plain (json_text (view value.now))) result run.old run.new }
 {
     write_any(run, value)?;
     Ok(Ended::Written)

@@ -16,6 +16,7 @@ mod filter;
 pub mod introspection;
 pub mod items;
 pub mod kinds;
+pub mod laws;
 pub mod leaves;
 pub mod nulls;
 pub mod outcome;

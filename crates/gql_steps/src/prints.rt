@@ -1,23 +1,25 @@
 //! Prints of values: numbers by which most values that differ are told apart. Values that are the
 //! same have the same print.
 ghost use Rattle.std.specs.Prelude.{◌≡◌};
-ghost use Rattle.serde_json.specs.View.{view};
+ghost use Rattle.serde_json.specs.Find.{to_float};
+ghost use Rattle.serde_json.specs.View.{number_view, view};
 ghost use Rattle.gql_steps.specs.Columns as spec;
 ghost use Rattle.gql_steps.specs.Resolution.{member_or_null};
 
-use serde_json::Value;
+use serde_json::{Number, Value};
+use std::num::f64_to_bits_with_nan;
 
 /// An odd number, by which prints are multiplied.
 const FACTOR: u64 = 1_099_511_628_211;
 
-/// These prints are no integer's.
+/// These prints are no finite double's.
 const NULL_PRINT: u64 = u64::MAX;
 
 const TRUE_PRINT: u64 = u64::MAX - 1;
 
 const FALSE_PRINT: u64 = u64::MAX - 2;
 
-/// The print of lists, objects and numbers that are not integers.
+/// The print of lists and objects.
 const OTHER_PRINT: u64 = u64::MAX - 3;
 
 /// A print, with one more byte in it.
@@ -39,13 +41,25 @@ fn print_of_text(text: &str) -> u64
     print
 }
 
-/// The print of an integer, or of a number that is none.
-fn print_of_integer(whole: Option<i64>) -> u64
-    ensures { result ≡ spec.print_of_integer whole }
+/// The double nearest to a number.
+pub fn real_of(number: &Number) -> f64
+    ensures { result ≡ to_float (number_view number.now) }
 {
-    match whole {
-        Some(whole) => whole.unsigned_abs(),
-        None => OTHER_PRINT,
+    match number.as_f64() {
+        Some(x) => x,
+        None => 0.0,
+    }
+}
+
+/// The print of a double: its bits, and those of 0 for -0.
+fn print_of_real(x: f64) -> u64
+    ensures { result ≡ spec.print_of_real x }
+{
+    let bits = f64_to_bits_with_nan(x);
+    if bits == 0x8000_0000_0000_0000 {
+        0
+    } else {
+        bits
     }
 }
 
@@ -56,7 +70,7 @@ pub fn print_of(value: &Value) -> u64
     match value {
         Value::Null => NULL_PRINT,
         Value::Bool(truth) => { if *truth { TRUE_PRINT } else { FALSE_PRINT } }
-        Value::Number(number) => print_of_integer(number.as_i64()),
+        Value::Number(number) => print_of_real(real_of(number)),
         Value::String(text) => print_of_text(text.as_str()),
         Value::Array(_) => OTHER_PRINT,
         Value::Object(_) => OTHER_PRINT,

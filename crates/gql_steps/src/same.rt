@@ -1,11 +1,12 @@
 //! Values of JSON that are the same. The lists and objects around the parts that are being compared
 //! are on a stack of its own, so that only memory limits how deep they nest.
 ghost use Rattle.std.specs.Prelude.{◌≡◌, IfOk};
-ghost use Rattle.serde_json.specs.View.{items_view, members_view, view};
+ghost use Rattle.serde_json.specs.View.{items_view, members_view, number_view, view};
 ghost use Rattle.gql_steps.specs.PairFrames.{same_rests, same_step, same_values};
 ghost use Rattle.gql_steps.specs.Resolution as spec;
 
-use serde_json::Value;
+use crate::prints::real_of;
+use serde_json::{Number, Value};
 use std::alloc::{AllocError, Global};
 use std::collections::btree_map::Iter;
 
@@ -37,16 +38,16 @@ pub enum PairStep<'v> {
     Within(PairFrame<'v>, PairFrame<'v>),
 }
 
-/// Whether both are integers, and the same.
-fn is_same_integer(whole: Option<i64>, other: Option<i64>) -> bool
-    ensures { result ≡ spec.same_integer whole other }
+/// Whether two numbers are the same: integers as integers, others by the doubles nearest to them.
+fn is_same_number(number: &Number, other: &Number) -> bool
+    ensures { result ≡ spec.same_number (number_view number.now) (number_view other.now) }
 {
-    match whole {
-        Some(whole) => match other {
+    match number.as_i64() {
+        Some(whole) => match other.as_i64() {
             Some(other) => whole == other,
-            None => false,
+            None => real_of(number) == real_of(other),
         },
-        None => false,
+        None => real_of(number) == real_of(other),
     }
 }
 
@@ -61,7 +62,10 @@ fn compare<'v>(value: &'v Value, other: &'v Value) -> Compared<'v>
             Some(other) => *truth == other,
             None => false,
         },
-        Value::Number(number) => is_same_integer(number.as_i64(), other.as_i64()),
+        Value::Number(number) => match other.as_number() {
+            Some(other) => is_same_number(number, other),
+            None => false,
+        },
         Value::String(text) => match other.as_str() {
             Some(other) => text.as_str() == other,
             None => false,
@@ -170,7 +174,7 @@ fn are_same_rests(alloc: Global, frame: PairFrame<'_>) -> Result<bool, AllocErro
     Err(AllocError)
 }
 
-/// Whether two values are the same, numbers as integers.
+/// Whether two values are the same.
 #[inline(never)]
 pub fn is_same(alloc: Global, value: &Value, other: &Value) -> Result<bool, AllocError>
     ensures { IfOk result (λ same. same ≡ spec.same_data (view value.now) (view other.now)) }

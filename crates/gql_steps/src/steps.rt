@@ -3,7 +3,7 @@ ghost use Rattle.std.specs.Prelude.{◌≡◌, ◌++◌, ◌∷◌, [], take, co
 ghost use Rattle.std.specs.Fmt.{signed_decimal};
 ghost use Rattle.json.specs.Print.{quoted};
 ghost use Rattle.serde_json.specs.View.{view};
-ghost use Rattle.serde_json.specs.Written.{compact_text};
+ghost use Rattle.gql_steps.specs.JsonText.{json_text};
 ghost use Rattle.gql_steps.specs.Parts as spec;
 ghost use Rattle.gql_steps.specs.Parts.{comma, plain, one};
 ghost use Rattle.gql_steps.specs.States.{Executes, Follows, message_of, path_of};
@@ -79,7 +79,7 @@ pub fn write_whole(run: &mut Run<'_>, number: i64) -> Result<(), ExecRefusal>
 /// Writes any value.
 pub fn write_any(run: &mut Run<'_>, value: &Value) -> Result<(), ExecRefusal>
     ensures follows { OnOk result
-        (Follows (plain (compact_text (view value.now))) run.old run.new) }
+        (Follows (plain (json_text (view value.now))) run.old run.new) }
     ensures err { IfErr result (λ e. e ≡ ExecRefusal.Memory) }
 {
     write_value(value, &mut run.out)?;

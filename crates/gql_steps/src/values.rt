@@ -2,11 +2,14 @@
 //! written are on a stack of its own, so that only memory limits how deep they nest.
 ghost use Rattle.std.specs.Prelude.{◌≡◌, ◌++◌, IfOk, OnOk, decimal};
 ghost use Rattle.std.specs.Fmt.{signed_decimal};
+ghost use Rattle.gql_numbers.specs.Doubles.{double_text};
 ghost use Rattle.serde_json.specs.View.{items_view, members_view, number_view, view};
-ghost use Rattle.serde_json.specs.Written.{comma_if, compact_text, items_text, members_text, number_text};
+ghost use Rattle.serde_json.specs.Written.{comma_if};
+ghost use Rattle.gql_steps.specs.JsonText.{items_text, json_text, members_text, number_text};
 ghost use Rattle.gql_steps.specs.WriteFrames.{inner_text, rest_text, step_text};
 
 use crate::strings::write_string;
+use gql_numbers::write_double;
 use serde_json::{Number, Value};
 use std::alloc::AllocError;
 use std::collections::btree_map::Iter;
@@ -47,15 +50,31 @@ pub fn write_unsigned(number: u64, out: &mut Vec<u8>) -> Result<(), AllocError>
     Ok(())
 }
 
-/// Writes a number, if it is an integer.
+/// Writes a double. One that is not finite has no text; no number of JSON is such a one.
+#[tactic(auto, using(crate::proofs::Writing::no_double))]
+fn write_real(x: f64, out: &mut Vec<u8>) -> Result<(), AllocError>
+    ensures { OnOk result (out.new.items ≡ out.old.items ++ double_text x) }
+{
+    if !x.is_finite() {
+        return Ok(());
+    }
+    let alloc = *out.allocator();
+    write_double(alloc, x, out)
+}
+
+/// Writes a number: an integer, or a double.
+#[tactic(auto, using(crate::proofs::Writing::real_text))]
 fn write_number(number: &Number, out: &mut Vec<u8>) -> Result<(), AllocError>
     ensures { OnOk result (out.new.items ≡ out.old.items ++ number_text (number_view number.now)) }
 {
     if let Some(number) = number.as_u64() {
         return write_unsigned(number, out);
     }
-    match number.as_i64() {
-        Some(number) => write_integer(number, out),
+    if let Some(number) = number.as_i64() {
+        return write_integer(number, out);
+    }
+    match number.as_f64() {
+        Some(x) => write_real(x, out),
         None => Ok(()),
     }
 }
@@ -73,7 +92,7 @@ fn write_comma(later: bool, out: &mut Vec<u8>) -> Result<(), AllocError>
 /// Writes a value, or the opening bracket of a list or an object.
 fn begin_value<'v>(value: &'v Value, out: &mut Vec<u8>) -> Result<Option<TextFrame<'v>>, AllocError>
     ensures { IfOk result (λ inner. out.new.items ++ inner_text inner
-        ≡ out.old.items ++ compact_text (view value.now)) }
+        ≡ out.old.items ++ json_text (view value.now)) }
 {
     match value {
         Value::Null => out.extend_from_slice(b"null")?,
@@ -157,11 +176,10 @@ fn write_rest<'v>(
     }
 }
 
-/// Writes the text of a value, without blanks, to the end of the vector. A number that is not an
-/// integer has no text: the data that operations are executed on has none. It gives up after
-/// 2^64 - 1 steps, which no run reaches.
+/// Writes the text of a value, without blanks, to the end of the vector. It gives up after 2^64 - 1
+/// steps, which no run reaches.
 pub fn write_value(value: &Value, out: &mut Vec<u8>) -> Result<(), AllocError>
-    ensures { OnOk result (out.new.items ≡ out.old.items ++ compact_text (view value.now)) }
+    ensures { OnOk result (out.new.items ≡ out.old.items ++ json_text (view value.now)) }
 {
     let Some(inner) = begin_value(value, out)? else {
         return Ok(());

@@ -5,7 +5,7 @@ use Rattle.json.specs.Print.{quoted}
 use Rattle.serde_json.specs.Data as json
 use Rattle.serde_json.specs.Find.{get}
 use Rattle.serde_json.specs.View.{items_of, items_view, view}
-use Rattle.serde_json.specs.Written.{compact_text}
+use Rattle.gql_steps.specs.JsonText.{json_text}
 use Rattle.serde_json.specs.declared.value.Value.{Value}
 use Rattle.gql_inputs.specs.InputTypes.{is_non_null, name_in}
 use Rattle.gql_types.specs.Schemas.{kind_named}
@@ -120,11 +120,11 @@ fields::execute_field-returns-in-Some-clause-does t c = λ q h.
     c.in_ok-write_comma.ensures.follows c.in_ok-count.ensures.follows
     (executes-after (plain label) (λ p. content_part types d q p) c.write_direct.result c.count.new.run c.write.new.run c.write_direct.new.run
     (wrote label c.count.new.run c.write.new.run (subst (λ l. Follows (plain l) c.count.new.run c.write.new.run) (c.as_slice.ensures.value ∙ h.label) c.in_ok-write.ensures.follows))
-    (as_part (content_part types d q (path_of c.write.new.run)) (plain (compact_text (data_of c.in-Some.found))) c.write_direct.result c.write.new.run c.write_direct.new.run
+    (as_part (content_part types d q (path_of c.write.new.run)) (plain (json_text (data_of c.in-Some.found))) c.write_direct.result c.write.new.run c.write_direct.new.run
     (c.in-Some.ensures (basis c.args.setting.now) q (path_of c.write.new.run) h) c.write_direct.ensures))
 
 pub fields::execute_field-returns-in-Some-clause-keeps : goal.fields::execute_field-returns-in-Some-clause-keeps
-fields::execute_field-returns-in-Some-clause-keeps t c = keeps_direct (basis c.args.setting.now) c.args.table.now (plain (compact_text (data_of c.in-Some.found))) c.write_direct.result
+fields::execute_field-returns-in-Some-clause-keeps t c = keeps_direct (basis c.args.setting.now) c.args.table.now (plain (json_text (data_of c.in-Some.found))) c.write_direct.result
     c.args.run.now c.write.new.run c.write_direct.new.run c.requires.right
     (omega (arith, c.in_ok-write_comma.ensures.follows.left, c.in_ok-count.ensures.follows.left, c.in_ok-write.ensures.follows.left)) c.write_direct.ensures
 
@@ -192,12 +192,12 @@ lists::list_item-returns-in-Some-clause-does t c = λ x a.
     let is = c.in-Some.ensures in
     counted-executes c.args.i (λ p. content_of_item item site c.args.i d p)
     c.write_direct.result c.args.run.now c.write_comma.new.run c.count.new.run c.write_direct.new.run c.in_ok-write_comma.ensures.follows c.in_ok-count.ensures.follows
-    (as_part (content_of_item item site c.args.i d (path_of c.count.new.run)) (plain (compact_text (data_of c.in-Some.found))) c.write_direct.result c.count.new.run c.write_direct.new.run
+    (as_part (content_of_item item site c.args.i d (path_of c.count.new.run)) (plain (json_text (data_of c.in-Some.found))) c.write_direct.result c.count.new.run c.write_direct.new.run
     (direct_item item site c.args.i is.scalar d (data_of c.in-Some.found) (path_of c.count.new.run) is.not_list (sym a.kind ∙ is.kind_is) is.value is.present)
     c.write_direct.ensures)
 
 pub lists::list_item-returns-in-Some-clause-keeps : goal.lists::list_item-returns-in-Some-clause-keeps
-lists::list_item-returns-in-Some-clause-keeps t c = keeps_direct (basis c.args.setting.now) c.args.table.now (plain (compact_text (data_of c.in-Some.found))) c.write_direct.result
+lists::list_item-returns-in-Some-clause-keeps t c = keeps_direct (basis c.args.setting.now) c.args.table.now (plain (json_text (data_of c.in-Some.found))) c.write_direct.result
     c.args.run.now c.count.new.run c.write_direct.new.run c.requires.right (omega (arith, c.in_ok-write_comma.ensures.follows.left, c.in_ok-count.ensures.follows.left)) c.write_direct.ensures
 
 pub lists::list_item-returns-clause-does : goal.lists::list_item-returns-clause-does

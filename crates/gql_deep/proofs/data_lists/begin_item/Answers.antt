@@ -1,6 +1,6 @@
 use Rattle.std.proofs.Common.{sym, ◌∙◌, arith}
 use Rattle.serde_json.specs.View.{view}
-use Rattle.serde_json.specs.Written.{compact_text}
+use Rattle.gql_steps.specs.JsonText.{json_text}
 use Rattle.gql_types.specs.Written.{written}
 use Rattle.gql_steps.specs.Direct.{data_of}
 use Rattle.gql_steps.specs.Objects.{basis}
@@ -36,12 +36,12 @@ returns-in-Some-clause-does c = λ x a.
     c.begun.ensures.does g c.args.table.now (item_part item site (path_of c.args.run.now) c.args.i d) c.args.run.now c.write_direct.new.run
     (counted-executes c.args.i (λ p. content_of_item item site c.args.i d p)
     c.write_direct.result c.args.run.now c.write_comma.new.run c.count.new.run c.write_direct.new.run c.in_ok-write_comma.ensures.follows c.in_ok-count.ensures.follows
-    (as_part (content_of_item item site c.args.i d (path_of c.count.new.run)) (plain (compact_text (data_of c.in-Some.found))) c.write_direct.result c.count.new.run c.write_direct.new.run
+    (as_part (content_of_item item site c.args.i d (path_of c.count.new.run)) (plain (json_text (data_of c.in-Some.found))) c.write_direct.result c.count.new.run c.write_direct.new.run
     (direct_item item site c.args.i is.scalar d (data_of c.in-Some.found) (path_of c.count.new.run) is.not_list (sym a.kind ∙ is.kind_is) is.value is.present)
     c.write_direct.ensures))
 
 pub returns-in-Some-clause-keeps : goal.returns-in-Some-clause-keeps
-returns-in-Some-clause-keeps c = c.begun.ensures.keeps (basis c.args.setting.now) c.args.table.now (plain (compact_text (data_of c.in-Some.found))) 1
+returns-in-Some-clause-keeps c = c.begun.ensures.keeps (basis c.args.setting.now) c.args.table.now (plain (json_text (data_of c.in-Some.found))) 1
     c.args.run.now c.count.new.run c.write_direct.new.run c.requires.right
     (omega (arith, c.in_ok-write_comma.ensures.follows.left, c.in_ok-count.ensures.follows.left, comma_weight c.args.i)) c.write_direct.ensures
 

@@ -1,6 +1,6 @@
 use Rattle.std.proofs.Common.{◌++◌, codes, subst, ◌∙◌, arith}
 use Rattle.json.specs.Print.{quoted}
-use Rattle.serde_json.specs.Written.{compact_text}
+use Rattle.gql_steps.specs.JsonText.{json_text}
 use Rattle.gql_steps.specs.Direct.{data_of}
 use Rattle.gql_deep.specs.Frames.{object_in}
 use Rattle.gql_steps.specs.Objects.{basis}
@@ -42,10 +42,10 @@ returns-in-Some-clause-does c = λ q h.
     c.in_ok-write_comma.ensures.follows c.in_ok-count.ensures.follows
     (executes-after (plain label) (λ p. content_part types d q p) c.write_direct.result c.count.new.run c.write.new.run c.write_direct.new.run
     (wrote label c.count.new.run c.write.new.run (subst (λ l. Follows (plain l) c.count.new.run c.write.new.run) (c.as_slice.ensures.value ∙ h.label) c.in_ok-write.ensures.follows))
-    (as_part (content_part types d q (path_of c.write.new.run)) (plain (compact_text (data_of c.in-Some.found))) c.write_direct.result c.write.new.run c.write_direct.new.run
+    (as_part (content_part types d q (path_of c.write.new.run)) (plain (json_text (data_of c.in-Some.found))) c.write_direct.result c.write.new.run c.write_direct.new.run
     (c.in-Some.ensures g q (path_of c.write.new.run) h) c.write_direct.ensures)))
 
 pub returns-in-Some-clause-keeps : goal.returns-in-Some-clause-keeps
-returns-in-Some-clause-keeps c = c.begun.ensures.keeps (basis c.args.setting.now) c.args.table.now (plain (compact_text (data_of c.in-Some.found))) 1
+returns-in-Some-clause-keeps c = c.begun.ensures.keeps (basis c.args.setting.now) c.args.table.now (plain (json_text (data_of c.in-Some.found))) 1
     c.args.run.now c.write.new.run c.write_direct.new.run c.requires.right
     (omega (arith, c.in_ok-write_comma.ensures.follows.left, c.in_ok-count.ensures.follows.left, c.in_ok-write.ensures.follows.left, comma_weight c.args.slot.field)) c.write_direct.ensures

@@ -1,7 +1,7 @@
 use Rattle.std.proofs.Common.{Ok, map, refl, ap, ◌∙◌}
 use Rattle.json.specs.Print.{quoted}
 use Rattle.serde_json.specs.Data as json
-use Rattle.serde_json.specs.Written.{compact_text}
+use Rattle.gql_steps.specs.JsonText.{json_text}
 use Rattle.gql_ast.specs.LiteralTexts.{literal_text}
 use Rattle.gql_intro.specs.Borrowed.{answer_of, node_of}
 use Rattle.gql_intro.specs.Introspection.{location_name}
@@ -34,8 +34,8 @@ returns-in-Text-clause-does c = at_answer (basis c.args.setting.now) c.args.tabl
 pub returns-in-Boolean-clause-does : goal.returns-in-Boolean-clause-does
 returns-in-Boolean-clause-does c = at_answer (basis c.args.setting.now) c.args.table.now c.args.field.now.place (written c.args.field.now.of_type.now) (below_at c.args.table.now c.args.slot)
     c.done-in-Boolean.result c.args.run.now c.write_flag.new.run
-    (answer_of c.args.setting.now.context.schema.now c.args.answer) (intro.truth c.in-Boolean.truth) (plain (compact_text (json.boolean c.in-Boolean.truth))) (ap (answer_of c.args.setting.now.context.schema.now) c.in-Boolean.is) (λ site. refl)
-    (c.done-in-Boolean.ensures.does (basis c.args.setting.now) c.args.table.now (plain (compact_text (json.boolean c.in-Boolean.truth))) c.args.run.now c.write_flag.new.run c.write_flag.ensures)
+    (answer_of c.args.setting.now.context.schema.now c.args.answer) (intro.truth c.in-Boolean.truth) (plain (json_text (json.boolean c.in-Boolean.truth))) (ap (answer_of c.args.setting.now.context.schema.now) c.in-Boolean.is) (λ site. refl)
+    (c.done-in-Boolean.ensures.does (basis c.args.setting.now) c.args.table.now (plain (json_text (json.boolean c.in-Boolean.truth))) c.args.run.now c.write_flag.new.run c.write_flag.ensures)
 
 pub returns-in-EnumValue-clause-does : goal.returns-in-EnumValue-clause-does
 returns-in-EnumValue-clause-does c = at_answer (basis c.args.setting.now) c.args.table.now c.args.field.now.place (written c.args.field.now.of_type.now) (below_at c.args.table.now c.args.slot)
@@ -77,7 +77,7 @@ pub returns-in-Text-clause-keeps : goal.returns-in-Text-clause-keeps
 returns-in-Text-clause-keeps c = c.done-in-Text.ensures.keeps (basis c.args.setting.now) c.args.table.now (plain (quoted c.in-Text.text.now)) c.args.run.now c.write_name.new.run c.requires.right c.write_name.ensures
 
 pub returns-in-Boolean-clause-keeps : goal.returns-in-Boolean-clause-keeps
-returns-in-Boolean-clause-keeps c = c.done-in-Boolean.ensures.keeps (basis c.args.setting.now) c.args.table.now (plain (compact_text (json.boolean c.in-Boolean.truth))) c.args.run.now c.write_flag.new.run c.requires.right c.write_flag.ensures
+returns-in-Boolean-clause-keeps c = c.done-in-Boolean.ensures.keeps (basis c.args.setting.now) c.args.table.now (plain (json_text (json.boolean c.in-Boolean.truth))) c.args.run.now c.write_flag.new.run c.requires.right c.write_flag.ensures
 
 pub returns-in-EnumValue-clause-keeps : goal.returns-in-EnumValue-clause-keeps
 returns-in-EnumValue-clause-keeps c = c.done-in-EnumValue.ensures.keeps (basis c.args.setting.now) c.args.table.now (plain (quoted c.in-EnumValue.value.now)) c.args.run.now c.write_name-in-EnumValue.new.run c.requires.right c.write_name-in-EnumValue.ensures

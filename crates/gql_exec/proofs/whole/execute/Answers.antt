@@ -18,8 +18,8 @@ pub returns-clause-outcome : goal.returns-clause-outcome
 returns-clause-outcome c =
     let d = c.args.definition.now in
     let of : Operation → Request = λ y. request c.args.schema.now c.args.made.now c.args.fragments.now.all d.file y (view c.args.variables.now) (view c.args.stored.now) in
-    ok_then c.execute_request.result (λ o. IsOutcome (of c.get-operation.result.now) (outcome_of o)) _
-    (λ o h files operation kept is. subst (λ r. IsOutcome r (outcome_of o))
+    ok_then c.execute_request.result (λ o. IsOutcome c.args.most (of c.get-operation.result.now) (outcome_of o)) _
+    (λ o h files operation kept is. subst (λ r. IsOutcome c.args.most r (outcome_of o))
     (ap of (c.get-operation.ensures ∙ operation_same d.tree c.in-Operation.operation operation c.in-Operation.is is)
     ∙ by_files files d operation c.args.schema.now c.args.made.now c.args.fragments.now.all (view c.args.variables.now) (view c.args.stored.now) kept) h)
     c.execute_request.ensures.outcome
@@ -28,8 +28,8 @@ pub returns-clause-heavy : goal.returns-clause-heavy
 returns-clause-heavy c =
     let d = c.args.definition.now in
     let of : Operation → Request = λ y. request c.args.schema.now c.args.made.now c.args.fragments.now.all d.file y (view c.args.variables.now) (view c.args.stored.now) in
-    err_then c.execute_request.result (λ e. e ≡ TooHeavy → IsTooHeavy (of c.get-operation.result.now)) _
-    (λ e h heavy files operation kept is. subst IsTooHeavy
+    err_then c.execute_request.result (λ e. e ≡ TooHeavy → IsTooHeavy c.args.most (of c.get-operation.result.now)) _
+    (λ e h heavy files operation kept is. subst (IsTooHeavy c.args.most)
     (ap of (c.get-operation.ensures ∙ operation_same d.tree c.in-Operation.operation operation c.in-Operation.is is)
     ∙ by_files files d operation c.args.schema.now c.args.made.now c.args.fragments.now.all (view c.args.variables.now) (view c.args.stored.now) kept) (h heavy))
     c.execute_request.ensures.heavy

@@ -1,7 +1,6 @@
 use Rattle.std.proofs.Common.{◌≡◌, ◌∙◌, ◌==◌, false, true, List, Err, sym, subst, length}
 use Rattle.std.specs.Option.{option_copied}
 use Rattle.gql_ast.specs.declared.fault.Fault.{Fault}
-use Rattle.gql_ast.specs.declared.profile.Profile.{Profile}
 use Rattle.gql_registry.specs.Calling.{TellsRun}
 use Rattle.gql_registry.specs.Calls.{Answers, faulty, no_operation}
 use Rattle.gql_registry.specs.declared.refusal.Refusal.TheVariants.{Faulty}
@@ -30,8 +29,7 @@ returns-then-not-runs c = λ files known profile.
     unrun files (view c.args.stored.now) (option_copied c.args.name) (view c.args.variables.now) c.in-Some.definition.now
     (sym (c.in-Some.ensures files.documents known.index.operations))
     (none_stands files c.in-Some.definition.now c.in_ok-faults.faults.items (c.in_ok-faults.ensures files known) none)
-    (subst (TellsRun files.profile c.in-Some.definition.now) c.if-not-runs.true
-    (subst (λ (p : Profile). TellsRun p c.in-Some.definition.now c.runs.result) (sym profile) c.runs.ensures))
+    (subst (TellsRun c.in-Some.definition.now) c.if-not-runs.true c.runs.ensures)
 
 pub returns : goal.returns
 returns c = λ files known profile.
@@ -39,8 +37,7 @@ returns c = λ files known profile.
     answered c.some_answer.ensures files (view c.args.stored.now) (option_copied c.args.name) (view c.args.variables.now) c.in-Some.definition.now
     (sym (c.in-Some.ensures files.documents known.index.operations))
     (none_stands files c.in-Some.definition.now c.in_ok-faults.faults.items (c.in_ok-faults.ensures files known) none)
-    (subst (TellsRun files.profile c.in-Some.definition.now) c.if-not-runs.false
-    (subst (λ (p : Profile). TellsRun p c.in-Some.definition.now c.runs.result) (sym profile) c.runs.ensures))
+    (subst (TellsRun c.in-Some.definition.now) c.if-not-runs.false c.runs.ensures)
     c.executed.result
-    (ok_map c.executed.result _ _ (λ reply h. h files known) c.executed.ensures.ok)
-    (err_map c.executed.result _ _ (λ e h. h files known) c.executed.ensures.err)
+    (ok_map c.executed.result _ _ (λ reply h. h files known profile) c.executed.ensures.ok)
+    (err_map c.executed.result _ _ (λ e h. h files known profile) c.executed.ensures.err)

@@ -1,14 +1,18 @@
-use Rattle.std.proofs.Common.{rules, refl}
+use Rattle.std.proofs.Common.{rules, refl, sym, subst}
+use Rattle.gql_ast.specs.declared.profile.Profile.{Profile}
+use Rattle.gql_registry.specs.DataBodies.{IsDataText}
+use Rattle.serde_json.specs.Data.{Data}
 use Rattle.gql_registry.proofs.FirstRefusals.{first_data_not_text, first_bad_data}
 use Rattle.gql_registry.proofs.reading.read_data.Goals as goal
 
 pub returns-in_default-clause-err : goal.returns-in_default-clause-err
-returns-in_default-clause-err c = λ s expected t.
+returns-in_default-clause-err c = λ s expected p t.
     (first_data_not_text s expected c.args.bytes.now t.present t.left c.in_default.ensures.cases.0, refl)
 
 pub returns-in-Err-Refused-clause-err : goal.returns-in-Err-Refused-clause-err
-returns-in-Err-Refused-clause-err c = λ s expected t. (
+returns-in-Err-Refused-clause-err c = λ s expected p t. (
   first_bad_data s expected c.args.bytes.now t.present t.left (search rules)
-      (rw c.in-Ok.ensures.cases.0 at (c.in-Err-Refused.ensures.err c.in-Err-Refused.field-0-is)),
+      (subst (λ (q : Profile). (d : Data) → IsDataText q c.args.bytes.now d → ⊥) (sym p)
+      (rw c.in-Ok.ensures.cases.0 at (c.in-Err-Refused.ensures.err c.in-Err-Refused.field-0-is))),
   refl,
 )

@@ -1,6 +1,6 @@
 use Rattle.std.proofs.Common.{arith, rules}
 use Rattle.serde_json.specs.View.{view}
-use Rattle.serde_json.specs.Written.{compact_text}
+use Rattle.gql_steps.specs.JsonText.{json_text}
 use Rattle.gql_steps.specs.Parts.{after_comma, counted, plain}
 use Rattle.gql_steps.specs.States.{Done}
 use Rattle.gql_inputs.specs.declared.scalar.Scalar.TheVariants.{Int as TheInt}
@@ -22,7 +22,7 @@ returns-in_err-write_whole_item-clause-stops c =
 pub loop-i-preserved : goal.loop-i-preserved
 loop-i-preserved c =
     let inv = c.loop-i.invariant in
-    let text = compact_text (number (of_integer c.in-Some.whole)) in
+    let text = json_text (number (of_integer c.in-Some.whole)) in
     let done : Done (after_comma c.loop-i.i (counted (plain text))) c.in_ok-write_whole_item.field-0 c.loop-i.run c.write_whole_item.new.run = search rules in
     record {
       count = inv.count;

@@ -1,6 +1,6 @@
 use Rattle.std.proofs.Common.{◌≡◌, ◌++◌, length}
 use Rattle.serde_json.specs.View.{items_view}
-use Rattle.serde_json.specs.Written.{items_text}
+use Rattle.gql_steps.specs.JsonText.{items_text}
 use Rattle.gql_steps.proofs.values.write_items.Given as goal
 
 abbrev pub decreases-loop-item : goal.decreases-loop-item

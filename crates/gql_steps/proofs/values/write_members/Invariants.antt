@@ -1,6 +1,6 @@
 use Rattle.std.proofs.Common.{◌≡◌, ◌++◌, length}
 use Rattle.serde_json.specs.View.{members_view}
-use Rattle.serde_json.specs.Written.{members_text}
+use Rattle.gql_steps.specs.JsonText.{members_text}
 use Rattle.gql_steps.proofs.values.write_members.Given as goal
 
 abbrev pub decreases-loop-key : goal.decreases-loop-key

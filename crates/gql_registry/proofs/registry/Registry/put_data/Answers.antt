@@ -1,4 +1,6 @@
-use Rattle.std.proofs.Common.{◌∙◌, refl, ap}
+use Rattle.std.proofs.Common.{◌∙◌, refl, sym, ap, subst}
+use Rattle.gql_ast.specs.declared.files.Files.{Files}
+use Rattle.gql_registry.specs.DataBodies.{IsDataText}
 use Rattle.gql_registry.specs.Edits.{put_data}
 use Rattle.gql_registry.specs.State.{State, state_of}
 use Rattle.gql_registry.proofs.FirstRefusals.{data_accepted}
@@ -11,7 +13,8 @@ pub returns-in_err-revision-clause-makes : goal.returns-in_err-revision-clause-m
 returns-in_err-revision-clause-makes c = first_answer (state_of c.args.self.now) (state_of c.args.self.now) c.args.expected (put_data c.args.bytes.now) _ _ c.from_residual.ensures.1 (c.in_err-revision.ensures.err _) refl
 
 pub returns-in_err-stored-clause-makes : goal.returns-in_err-stored-clause-makes
-returns-in_err-stored-clause-makes c = bad_data_answer (state_of c.args.self.now) c.args.expected c.args.bytes.now _ _ c.from_residual-in_err-stored.ensures.1 c.in_err-stored.ensures.err c.in_ok-revision.ensures.time
+returns-in_err-stored-clause-makes c = bad_data_answer (state_of c.args.self.now) c.args.expected c.files.result.now.profile c.args.bytes.now _ _ c.from_residual-in_err-stored.ensures.1
+    (sym (ap (λ (f : Files). f.profile) c.files.ensures.files)) c.in_err-stored.ensures.err c.in_ok-revision.ensures.time
 
 pub returns-in_err-faults-clause-makes : goal.returns-in_err-faults-clause-makes
 returns-in_err-faults-clause-makes c = makes_memory (state_of c.args.self.now) (state_of c.args.self.now) c.args.expected (put_data c.args.bytes.now) _ c.from_residual-in_err-faults.ensures.1 refl
@@ -37,11 +40,12 @@ returns-in_err-faults-clause-meter c = refl
 pub returns-clause-makes : goal.returns-clause-makes
 returns-clause-makes c =
     let s = state_of c.args.self.now in
-    let time = c.in_ok-revision.ensures.time in (
-      data_accepted s c.args.expected c.args.bytes.now (view c.in_ok-stored.stored) time.present time.left c.in_ok-stored.ensures.read.0 c.in_ok-stored.ensures.read.1,
+    let time = c.in_ok-revision.ensures.time in
+    let read = subst (λ (f : Files). IsDataText f.profile c.args.bytes.now (view c.in_ok-stored.stored)) c.files.ensures.files c.in_ok-stored.ensures.read.1 in (
+      data_accepted s c.args.expected c.args.bytes.now (view c.in_ok-stored.stored) time.present time.left c.in_ok-stored.ensures.read.0 read,
       (
         view c.in_ok-stored.stored,
-        c.in_ok-stored.ensures.read.1,
+        read,
         ap (λ (v : Value). let t : State = record { files = s.files; stored = view v; revision = c.in_ok-revision.revision } in t) c.new.ensures
             ∙ ap (λ n. let t : State = record { files = s.files; stored = view c.in_ok-stored.stored; revision = n } in t) c.in_ok-revision.ensures.next,
       ),
