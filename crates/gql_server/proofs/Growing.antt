@@ -1,5 +1,5 @@
 -- What a network reports, some of it after other.
-use Rattle.std.proofs.Common.{◌≡◌, ◌∙◌, ◌⊎◌, inl, inr, List, [], ◌++◌, Option, Some, None, refl, sym, ap, subst, append_assoc, append-nil}
+use Rattle.std.proofs.Common.{◌≡◌, ◌∙◌, inl, inr, List, [], ◌++◌, Option, Some, None, refl, sym, ap, subst, append_assoc, append-nil}
 use Rattle.gql_server.specs.Rooms.{taken_back}
 use Rattle.gql_server.specs.Traffic.{Grows, Line, Traffic, accepts, joined, no_traffic, returns}
 use Rattle.gql_server.specs.Turns.{Talk}

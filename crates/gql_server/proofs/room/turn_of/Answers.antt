@@ -1,6 +1,6 @@
 use Rattle.std.proofs.Common.{refl}
 use Rattle.gql_server.proofs.Growing.{grows_nothing}
-use Rattle.gql_server.proofs.Rooming.{back_accepts_none, moves_free, moves_on, moves_over, moves_stay}
+use Rattle.gql_server.proofs.Rooming.{moves_free, moves_on, moves_over, moves_stay}
 use Rattle.gql_server.proofs.Seating.{turn_ends, turn_stays}
 use Rattle.gql_server.specs.Traffic.{no_traffic}
 use Rattle.gql_server.proofs.room.turn_of.Goals as goal

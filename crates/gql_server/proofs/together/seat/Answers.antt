@@ -13,8 +13,8 @@ returns-in_default-clause-moves g c =
     let old = taken_back (talk_in c.args.slot.now) in let line = g.S.Socket.line c.args.socket in (
       joined old (returns line),
       grows_join _ _ _ old (returns line) c.leave.ensures.returned c.in_default.ensures,
-      moves_free _ _ _ _ _ c.leave.new.slot _ c.leave.ensures.free
-          (moves_refuse _ _ _ _ (talk_in c.args.slot.now) line c.requires.number c.leave.ensures.does),
+      moves_free c.args.at_once c.args.number c.args.hub.now c.leave.new.hub (talk_in c.args.slot.now) c.leave.new.slot (joined (accepts line) (joined old (returns line))) c.leave.ensures.free
+          (moves_refuse c.args.at_once c.args.number c.args.hub.now c.leave.new.hub (talk_in c.args.slot.now) line c.requires.number c.leave.ensures.does),
       none_more old (returns line) (back_accepts_none (talk_in c.args.slot.now)) refl,
     )
 
@@ -28,7 +28,7 @@ returns-clause-moves g c =
       old,
       grows_until _ _ _ old c.leave.ensures.returned c.in-Some.ensures.2,
       subst (λ (t : Talk). Moves c.args.at_once c.args.number c.args.hub.now (talk_in c.args.slot.now) (joined (accepts line) old) c.open.new.hub (Some t)) (sym c.in-Some.ensures.0)
-          (moves_replace _ _ _ _ _ (talk_in c.args.slot.now) line c.requires.number c.leave.ensures.does c.open.ensures),
+          (moves_replace c.args.at_once c.args.number c.args.hub.now c.leave.new.hub c.open.new.hub (talk_in c.args.slot.now) line c.requires.number c.leave.ensures.does c.open.ensures),
       back_accepts_none (talk_in c.args.slot.now),
     )
 

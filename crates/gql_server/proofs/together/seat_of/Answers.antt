@@ -1,4 +1,3 @@
-use Rattle.std.proofs.Common.{ap, sym, ◌∙◌}
 use Rattle.gql_server.proofs.Growing.{grows_same}
 use Rattle.gql_server.proofs.together.seat_of.Goals as goal
 

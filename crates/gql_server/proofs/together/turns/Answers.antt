@@ -1,4 +1,4 @@
-use Rattle.std.proofs.Common.{refl, arith}
+use Rattle.std.proofs.Common.{refl}
 use Rattle.gql_server.proofs.Growing.{grows_join, grows_nothing, none_more}
 use Rattle.gql_server.proofs.Rooming.{place_of, runs_at, runs_join, runs_stay, seat_count}
 use Rattle.gql_server.proofs.Seating.{no_turns, rest_after, turns_more}
