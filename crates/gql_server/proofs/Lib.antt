@@ -1,6 +1,10 @@
 mod Adding
 mod Going
+mod Growing
+mod Noting
 mod Parts
+mod Remembering
 mod Rooming
+mod Rounding
 mod Seating
 mod Turning

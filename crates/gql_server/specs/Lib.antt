@@ -1,8 +1,12 @@
+pub mod MemNetwork
 pub mod OneByOne
 pub mod Rooms
+pub mod Rounds
+pub mod Seated
 pub mod Seats
 pub mod Statuses
 pub mod Steps
 pub mod Together
+pub mod Traffic
 pub mod Turns
 pub mod Waits

@@ -4,6 +4,7 @@ use Rattle.gql_wire.specs.Peer.{Passage, Adds, received_in, sent_in}
 use Rattle.gql_http.specs.Events.{Event, Does}
 use Rattle.gql_http.specs.Hubs.{IsFeedOf, rests_of, service_of}
 use Rattle.gql_http.specs.declared.hub.Hub.{Hub}
+use Rattle.gql_server.specs.Traffic.{Line}
 use Rattle.gql_server.specs.declared.place.End.{End}
 use Rattle.gql_server.specs.declared.place.End.TheVariants.{Answered, Ended, Failed, Spent}
 use Rattle.gql_server.specs.declared.place.Next.{Next}
@@ -25,6 +26,27 @@ pub record Talk : Type 0 where
   pub has_failed : Bool
   pub ended : Bool
   pub waits : ℕ
+
+-- a connection of whose socket this is known, and of which nothing was read
+abbrev pub begun : Line → Talk
+begun line = record {
+  transcript = line.transcript;
+  unfed = [];
+  unsent = [];
+  reads = 0;
+  has_failed = line.has_failed;
+  ended = line.ended;
+  waits = line.waits;
+}
+
+-- what is known of a connection's socket
+abbrev pub line_of : Talk → Line
+line_of talk = record {
+  transcript = talk.transcript;
+  has_failed = talk.has_failed;
+  ended = talk.ended;
+  waits = talk.waits;
+}
 
 -- the hub is fed these bytes on the connection, in at most one piece, and answers this
 pub data Feeds (before : Hub) (c : ℕ) : List ℕ → List ℕ → Hub → Type 0 where

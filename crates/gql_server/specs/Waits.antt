@@ -4,7 +4,7 @@ use Rattle.std.specs.Duration.{as_nanos}
 use Rattle.std.specs.Time.{instant_nanos}
 use Rattle.std.specs.declared.time.Duration.{Duration}
 use Rattle.std.specs.declared.time.Instant.{Instant}
-use Rattle.gql_server.specs.declared.room.Seat.{Seat}
+use Rattle.gql_server.specs.Seated.{Seated}
 
 -- the shorter of two waits; none is a wait without end
 abbrev pub shorter : Option Duration → Duration → Option Duration
@@ -17,13 +17,13 @@ most_quiet = 60_000_000_000
 
 -- How many nanoseconds a seat leaves to wait: none if its connection is ready for another turn, else
 -- those until it was quiet for too long. A seat that nobody has sets no limit.
-abbrev pub limit_of : Instant → Option Seat → Option ℕ
-limit_of now = option_map (λ (seat : Seat). if seat.is_ready then 0
-    else most_quiet - (instant_nanos now - instant_nanos seat.since))
+abbrev pub limit_of : Instant → Option Seated → Option ℕ
+limit_of now = option_map (λ (seat : Seated). if seat.is_ready then 0
+    else most_quiet - (instant_nanos now - seat.since))
 
 -- The wait is the least of the limits that the first seats set, and without end exactly if they set
 -- none.
-abbrev pub IsLeast : Instant → ℕ → List (Option Seat) → Option Duration → Type 0
+abbrev pub IsLeast : Instant → ℕ → List (Option Seated) → Option Duration → Type 0
 IsLeast now bound seats None = (c : ℕ) → c < bound → limit_of now (get_or seats c None) ≡ None
 IsLeast now bound seats (Some wait) =
     ((c : ℕ) × (c < bound) × (limit_of now (get_or seats c None) ≡ Some (as_nanos wait)))

@@ -46,7 +46,7 @@ pub enum Next {
 /// be fed, those that are still to be written, and how often the socket could move nothing.
 #[derive(Drop)]
 pub struct Place<S: Socket + Drop> {
-    socket: S,
+    socket: Box<S>,
     /// A read fills it; the bytes from `from` up to `to` are not fed yet.
     piece: Vec<u8>,
     from: usize,
@@ -66,17 +66,24 @@ impl<S: Socket + Drop> Model for Place<S> {
     ghost Value = { Talk };
 
     ghost view = { λ p. record {
-      transcript = S.transcript p.socket;
+      transcript = (S.line p.socket.value).transcript;
       unfed = take (p.to - p.from) (drop p.from p.piece.items);
       unsent = drop p.at p.unsent.items;
       reads = p.reads;
-      has_failed = S.has_failed p.socket;
-      ended = S.ended p.socket;
-      waits = S.waits p.socket;
+      has_failed = (S.line p.socket.value).has_failed;
+      ended = (S.line p.socket.value).ended;
+      waits = (S.line p.socket.value).waits;
     } };
 
     ghost invariant = { λ p. (p.from ≤ p.to) × (p.to ≤ length p.piece.items)
         × (p.at ≤ length p.unsent.items) × (0 < length p.piece.items) × (p.reads ≤ most_reads) };
+}
+
+/// What the reads of a connection fill.
+pub fn new_piece(alloc: Global) -> Result<Vec<u8>, AllocError>
+    ensures { IfOk result (λ piece. 0 < length piece.items) }
+{
+    Vec::from_elem(alloc, 0, PIECE_BYTES)
 }
 
 /// How far the answers are written.
@@ -91,11 +98,17 @@ enum Sending {
 }
 
 impl<S: Socket + Drop> Place<S> {
-    /// A connection of which nothing was read.
-    pub fn new(alloc: Global, socket: S) -> Result<Place<S>, AllocError>
-        ensures { IfOk result (λ place. place ≡ record { transcript = S.transcript socket; unfed = []; unsent = []; reads = 0; has_failed = S.has_failed socket; ended = S.ended socket; waits = S.waits socket }) }
+    /// A connection of which nothing was read. Its reads fill the piece. If an allocation fails, the
+    /// socket is given back.
+    pub fn new(alloc: Global, socket: S, piece: Vec<u8>) -> Result<Place<S>, S>
+        requires { 0 < length piece.items }
+        ensures { MatchResult result (λ place. place ≡ spec.begun (S.line socket))
+            (λ back. back ≡ socket) }
     {
-        let piece = Vec::from_elem(alloc, 0, PIECE_BYTES)?;
+        let socket = match Box::new(alloc, socket) {
+            Ok(socket) => socket,
+            Err(failed) => return Err(failed.value),
+        };
         Ok(Place {
             socket,
             piece,
@@ -106,6 +119,14 @@ impl<S: Socket + Drop> Place<S> {
             reads: 0,
             has_moved: false,
         })
+    }
+
+    /// The socket of a connection that is over.
+    pub fn into_socket(self) -> S
+        ensures { S.line result ≡ spec.line_of self }
+    {
+        let Place { socket, .. } = self;
+        Box::into_inner(socket)
     }
 
     /// Whether every byte that was read is fed, and every answer is written.

@@ -1,6 +1,7 @@
 //! The other end of a connection that never waits.
-ghost use Rattle.std.specs.Prelude.{◌≡◌, ◌+◌, ◌<◌, ◌≤◌, [], ◌∷◌, List, Option, length, take, IfOk, IfSome, OnOk, OnErr, Bool, true, MatchOption, MatchResult, ℕ};
-ghost use Rattle.gql_wire.specs.Peer.{Passage, received, sent, Adds};
+ghost use Rattle.std.specs.Prelude.{◌≡◌, ◌+◌, ◌<◌, ◌≤◌, [], ◌∷◌, length, take, IfOk, IfSome, true, MatchOption, MatchResult};
+ghost use Rattle.gql_wire.specs.Peer.{received, sent, Adds};
+ghost use Rattle.gql_server.specs.Traffic.{Line};
 
 use thiserror::Error;
 
@@ -11,17 +12,9 @@ pub struct SocketFailed;
 
 /// The other end of a connection. A call moves what it can at once, and never waits.
 pub trait Socket {
-    /// What passed so far, in order, if the socket reports it.
-    ghost transcript: { Self → Option (List Passage) };
-
-    /// Whether a call has failed.
-    ghost has_failed: { Self → Bool };
-
-    /// Whether the input is at its end.
-    ghost ended: { Self → Bool };
-
-    /// How many calls found that the socket can give or take nothing now.
-    ghost waits: { Self → ℕ };
+    /// What is known of it: what passed so far, if it reports that, whether a call has failed, whether
+    /// the input is at its end, and how many calls could give or take nothing at that time.
+    ghost line: { Self → Line };
 
     /// Fills the front of the piece, and returns how many bytes came, or none if none has come yet.
     /// If the piece is not empty and 0 bytes came, the input is at its end.
@@ -29,20 +22,20 @@ pub trait Socket {
         ensures length { length piece.new ≡ length piece.old }
         ensures moved { MatchResult result
             (λ found. MatchOption found
-            (Adds (transcript self.old) (transcript self.new) [])
+            (Adds (line self.old).transcript (line self.new).transcript [])
             (λ n. (n ≤ length piece.new)
-            × Adds (transcript self.old) (transcript self.new) (received (take n piece.new) ∷ [])))
-            (λ _. Adds (transcript self.old) (transcript self.new) []) }
+            × Adds (line self.old).transcript (line self.new).transcript (received (take n piece.new) ∷ [])))
+            (λ _. Adds (line self.old).transcript (line self.new).transcript []) }
         ensures failed { MatchResult result
-            (λ _. has_failed self.new ≡ has_failed self.old)
-            (λ _. has_failed self.new ≡ true) }
+            (λ _. (line self.new).has_failed ≡ (line self.old).has_failed)
+            (λ _. (line self.new).has_failed ≡ true) }
         ensures ends { IfOk result (λ found. IfSome found (λ n.
-            n ≡ 0 → 0 < length piece.old → ended self.new ≡ true)) }
+            n ≡ 0 → 0 < length piece.old → (line self.new).ended ≡ true)) }
         ensures waited { MatchResult result
             (λ found. MatchOption found
-            (waits self.new ≡ waits self.old + 1)
-            (λ _. waits self.new ≡ waits self.old))
-            (λ _. waits self.new ≡ waits self.old) };
+            ((line self.new).waits ≡ (line self.old).waits + 1)
+            (λ _. (line self.new).waits ≡ (line self.old).waits))
+            (λ _. (line self.new).waits ≡ (line self.old).waits) };
 
     /// Takes bytes from the front, at least one, and returns how many, or none if it can take none
     /// yet.
@@ -50,16 +43,16 @@ pub trait Socket {
         requires some { 0 < length bytes.now }
         ensures moved { MatchResult result
             (λ found. MatchOption found
-            (Adds (transcript self.old) (transcript self.new) [])
+            (Adds (line self.old).transcript (line self.new).transcript [])
             (λ n. (0 < n) × (n ≤ length bytes.now)
-            × Adds (transcript self.old) (transcript self.new) (sent (take n bytes.now) ∷ [])))
-            (λ _. Adds (transcript self.old) (transcript self.new) []) }
+            × Adds (line self.old).transcript (line self.new).transcript (sent (take n bytes.now) ∷ [])))
+            (λ _. Adds (line self.old).transcript (line self.new).transcript []) }
         ensures failed { MatchResult result
-            (λ _. has_failed self.new ≡ has_failed self.old)
-            (λ _. has_failed self.new ≡ true) }
+            (λ _. (line self.new).has_failed ≡ (line self.old).has_failed)
+            (λ _. (line self.new).has_failed ≡ true) }
         ensures waited { MatchResult result
             (λ found. MatchOption found
-            (waits self.new ≡ waits self.old + 1)
-            (λ _. waits self.new ≡ waits self.old))
-            (λ _. waits self.new ≡ waits self.old) };
+            ((line self.new).waits ≡ (line self.old).waits + 1)
+            (λ _. (line self.new).waits ≡ (line self.old).waits))
+            (λ _. (line self.new).waits ≡ (line self.old).waits) };
 }

@@ -49,13 +49,12 @@ impl TcpSocket {
 }
 
 impl Socket for TcpSocket {
-    ghost transcript = { λ _. None };
-
-    ghost has_failed = { λ s. s.has_failed };
-
-    ghost ended = { λ s. s.ended };
-
-    ghost waits = { λ s. s.waits };
+    ghost line = { λ s. record {
+      transcript = None;
+      has_failed = s.has_failed;
+      ended = s.ended;
+      waits = s.waits;
+    } };
 
     fn read(&mut self, piece: &mut [u8]) -> Result<Option<usize>, SocketFailed> {
         let is_empty = piece.is_empty();

@@ -1,32 +1,28 @@
 //! Many connections at one time, served by one thread.
-ghost use Rattle.std.specs.Prelude.{◌≡◌, ◌<◌, ◌≤◌, List, Option, IfSome, IfOk, OnOk, length, ◌⊎◌, true, false};
+ghost use Rattle.std.specs.Prelude.{◌≡◌, ◌<◌, ◌≤◌, ◌+◌, [], None, Option, MatchOption, MatchResult, IsTrue, length, ◌⊎◌, true, false};
 ghost use Rattle.std.specs.Duration.{as_nanos};
 ghost use Rattle.std.specs.declared.time.Duration.{Duration};
 ghost use Rattle.gql_http.specs.Hubs.{rests_of};
-ghost use Rattle.gql_http.specs.declared.hub.Hub.{Hub};
-ghost use Rattle.gql_server.specs.declared.room.Seat.{Seat};
-ghost use Rattle.gql_server.specs.Rooms.{IsBegun, Moves, Runs, RunsFromAny, RunsFromNone, talk_in, talks_of};
+ghost use Rattle.gql_server.specs.Rooms.{AreOver, Moves, Runs, RunsThrough, talk_in, talks_of};
+ghost use Rattle.gql_server.specs.Rounds.{Admits, AreFree, AreNoted, IsFresh, IsRound, IsServed, Serves};
 ghost use Rattle.gql_server.specs.Seats.{HaveTheirTurns};
 ghost use Rattle.gql_server.specs.Together.{AreClosed, Goes};
+ghost use Rattle.gql_server.specs.Traffic.{Grows, Traffic, accepts, joined, returns};
+ghost use Rattle.gql_server.specs.Turns.{begun};
 ghost use Rattle.gql_server.specs.Waits as limits;
 
 use crate::fault::ServeFault;
-use crate::place::Place;
-use crate::room::{Seat, Seats, close, mark_ready, next_place, open, shorter, turn_of, wait_time};
-use crate::tcp_socket::TcpSocket;
+use crate::listener::AcceptFailed;
+use crate::network::{AcceptFault, Network};
+use crate::place::{Place, new_piece};
+use crate::report::Report;
+use crate::room::{
+    Seat, Seats, free_seats, leave, next_place, note_seat, open, shorter, turn_of, wait_time,
+};
+use crate::socket::Socket;
 use gql_http::Hub;
-use mio::net::{TcpListener, TcpStream};
-use mio::{Events, Interest, Poll, Token};
 use std::alloc::Global;
-use std::io::ErrorKind;
-use std::net::Net;
-use std::time::{Clock, Duration, Instant};
-
-/// The token of the listener; the token of a connection is its number.
-const LISTENER: Token = Token(16);
-
-/// How many events a wait reports at most.
-const EVENTS: usize = 64;
+use std::time::{Duration, Instant};
 
 /// A connection that was quiet for this many milliseconds yields its place to one that waits.
 const YIELD_MILLISECONDS: u64 = 50;
@@ -55,8 +51,18 @@ impl Queue {
         }
     }
 
+    /// Notes that a connection may wait.
+    fn note(&mut self, now: Instant)
+        ensures { self.new.left ≡ self.old.left }
+    {
+        if !self.is_awaited {
+            self.since = now;
+        }
+        self.is_awaited = true;
+    }
+
     /// How long to wait for the next event, by what the connections ask for.
-    fn wait_time(&self, seats: &Seats, now: Instant) -> Option<Duration>
+    fn wait_time<S: Socket + Drop>(&self, seats: &Seats<S>, now: Instant) -> Option<Duration>
         ensures awaited { self.now.is_awaited ≡ true → 0 < self.now.left
             → (wait : Option Duration) × (most : Duration)
             × limits.IsLeast now (length seats.now) seats.now wait × (as_nanos most ≡ 50_000_000)
@@ -73,49 +79,59 @@ impl Queue {
     }
 }
 
-/// The seat of a stream that was accepted, which is watched from now on. None if the system refuses
-/// that, or an allocation fails.
-fn seat_of(alloc: Global, poll: &Poll, number: u8, stream: TcpStream, now: Instant) -> Option<Seat>
-    ensures { IfSome result (λ seat. IsBegun seat.place) }
+/// The seat of a connection that was accepted, whose socket is watched from now on. None if the
+/// network refuses that, or an allocation fails: the socket is taken back then.
+fn seat_of<S: Socket + Drop, N: Network<S>>(
+    alloc: Global,
+    network: &mut N,
+    number: u8,
+    socket: S,
+    now: Instant,
+) -> Option<Seat<S>>
+    requires { number < 16 }
+    ensures { MatchOption result
+        (Grows (N.traffic network.old) (N.traffic network.new) (returns (S.line socket)))
+        (λ seat. (seat.talk ≡ begun (S.line socket)) × (seat.is_ready ≡ true)
+        × (N.traffic network.new ≡ N.traffic network.old)) }
 {
-    let mut stream = stream;
-    let both = Interest::READABLE | Interest::WRITABLE;
-    let token = Token(usize::from(number));
-    let Ok(()) = stream.set_nodelay(true) else {
+    let mut socket = socket;
+    let Ok(()) = network.watch(&mut socket, number) else {
+        network.take_back(socket);
         return None;
     };
-    let Ok(()) = poll.registry().register(&mut stream, token, both) else {
+    let Ok(piece) = new_piece(alloc) else {
+        network.take_back(socket);
         return None;
     };
-    let Ok(place) = Place::new(alloc, TcpSocket::new(stream)) else {
-        return None;
-    };
-    Some(Seat {
-        place,
-        is_ready: true,
-        is_new: true,
-        since: now,
-    })
+    match Place::new(alloc, socket, piece) {
+        Ok(place) => Some(Seat::new(place, now)),
+        Err(socket) => {
+            network.take_back(socket);
+            None
+        }
+    }
 }
 
-/// Gives a place to a stream that was accepted. The connection that has it is closed.
-#[tactic(auto, using(crate::proofs::Rooming::moves_leave))]
-fn seat(
+/// Gives a place to a connection that was accepted. The connection that has it is closed.
+fn seat<S: Socket + Drop, N: Network<S>>(
     alloc: Global,
-    poll: &Poll,
+    network: &mut N,
     hub: &mut Hub,
     at_once: u8,
     number: u8,
-    slot: &mut Option<Seat>,
-    stream: TcpStream,
+    slot: &mut Option<Seat<S>>,
+    socket: S,
     now: Instant,
 )
-    requires { number < at_once }
-    ensures { Moves at_once number hub.old (talk_in slot.old) hub.new (talk_in slot.new) }
+    requires number { number < at_once }
+    requires most { at_once ≤ 16 }
+    ensures moves { (t : Traffic) × Grows (N.traffic network.old) (N.traffic network.new) t
+        × Moves at_once number hub.old (talk_in slot.old) (joined (accepts (S.line socket)) t)
+        hub.new (talk_in slot.new) × (t.accepted ≡ []) }
+    ensures fresh { IsFresh slot.new }
 {
-    close(hub, number);
-    let Some(seat) = seat_of(alloc, poll, number, stream, now) else {
-        *slot = None;
+    leave(network, hub, number, slot);
+    let Some(seat) = seat_of(alloc, network, number, socket, now) else {
         return;
     };
     open(hub, number);
@@ -123,19 +139,19 @@ fn seat(
 }
 
 /// Accepts a connection if one waits and there is a place. Returns whether another may follow.
-#[tactic(auto, using(crate::proofs::Rooming::runs_stay))]
-fn admit_one(
+fn admit_one<S: Socket + Drop, N: Network<S>>(
     alloc: Global,
-    poll: &Poll,
-    listener: &TcpListener,
+    network: &mut N,
     hub: &mut Hub,
     at_once: u8,
-    seats: &mut Seats,
+    seats: &mut Seats<S>,
     queue: &mut Queue,
     now: Instant,
-) -> Result<bool, ServeFault>
+) -> Result<bool, AcceptFailed>
     requires { at_once ≤ 16 }
-    ensures { Runs at_once hub.old (talks_of seats.old) hub.new (talks_of seats.new) }
+    ensures { (t : Traffic) × Grows (N.traffic network.old) (N.traffic network.new) t
+        × Admits at_once hub.old seats.old t hub.new seats.new
+        × (length t.accepted + queue.new.left ≡ queue.old.left) }
 {
     if !queue.is_awaited || queue.left == 0 {
         return Ok(false);
@@ -144,122 +160,134 @@ fn admit_one(
     let Some(number) = next_place(hub, at_once, seats, now, least) else {
         return Ok(false);
     };
-    match listener.accept() {
-        Ok((stream, _)) => {
+    match network.accept() {
+        Ok(Some(socket)) => {
             queue.left -= 1;
             queue.since = now;
             let slot = &mut seats[usize::from(number)];
-            seat(alloc, poll, hub, at_once, number, slot, stream, now);
+            seat(alloc, network, hub, at_once, number, slot, socket, now);
             Ok(true)
         }
-        Err(error) => match error.kind() {
-            ErrorKind::WouldBlock => {
-                queue.is_awaited = false;
-                Ok(false)
-            }
-            // The peer is gone, or a signal came: the next may be there.
-            ErrorKind::ConnectionAborted | ErrorKind::Interrupted => Ok(true),
-            _ => Err(ServeFault::AcceptFailed),
-        },
+        Ok(None) => {
+            queue.is_awaited = false;
+            Ok(false)
+        }
+        Err(AcceptFault::Passing) => Ok(true),
+        Err(AcceptFault::Failed) => Err(AcceptFailed),
     }
 }
 
 /// Accepts the connections that wait, as long as there are places.
-#[tactic(auto, using(crate::proofs::Rooming::runs_stay, crate::proofs::Rooming::runs_join))]
-fn admit(
+fn admit<S: Socket + Drop, N: Network<S>>(
     alloc: Global,
-    poll: &Poll,
-    listener: &TcpListener,
+    network: &mut N,
     hub: &mut Hub,
     at_once: u8,
-    seats: &mut Seats,
+    seats: &mut Seats<S>,
     queue: &mut Queue,
     now: Instant,
-) -> Result<(), ServeFault>
+) -> Result<(), AcceptFailed>
     requires { at_once ≤ 16 }
-    ensures { Runs at_once hub.old (talks_of seats.old) hub.new (talks_of seats.new) }
+    ensures { (t : Traffic) × Grows (N.traffic network.old) (N.traffic network.new) t
+        × Admits at_once hub.old seats.old t hub.new seats.new
+        × (length t.accepted + queue.new.left ≡ queue.old.left) }
 {
     for _place in 0..at_once {
-        if !admit_one(alloc, poll, listener, hub, at_once, seats, queue, now)? {
+        if !admit_one(alloc, network, hub, at_once, seats, queue, now)? {
             break;
         }
     }
     Ok(())
 }
 
-/// Notes what the system reports: which connections are ready, and whether one waits.
-fn note(events: &Events, seats: &mut Seats, queue: &mut Queue, now: Instant)
-    ensures { talks_of seats.new ≡ talks_of seats.old }
+/// Notes which connections may be ready, and whether one waits.
+fn note<S: Socket + Drop>(report: &Report, seats: &mut Seats<S>, queue: &mut Queue, now: Instant)
+    ensures noted { AreNoted report.now seats.old seats.new }
+    ensures left { queue.new.left ≡ queue.old.left }
 {
-    for event in events.iter() {
-        let token = event.token();
-        if token == LISTENER {
-            if !queue.is_awaited {
-                queue.since = now;
-            }
-            queue.is_awaited = true;
-        } else if token.0 < seats.len() {
-            mark_ready(&mut seats[token.0]);
-        }
+    if report.has_connection {
+        queue.note(now);
+    }
+    for number in 0..seats.len() {
+        note_seat(&mut seats[number], report.sockets[number]);
     }
 }
 
 /// Gives each connection that is ready a turn.
-#[tactic(auto, using(crate::proofs::Rooming::runs_stay))]
-fn turns(hub: &mut Hub, at_once: u8, seats: &mut Seats, now: Instant)
+fn turns<S: Socket + Drop, N: Network<S>>(
+    network: &mut N,
+    hub: &mut Hub,
+    at_once: u8,
+    seats: &mut Seats<S>,
+    now: Instant,
+)
     requires { at_once ≤ 16 }
-    ensures runs { Runs at_once hub.old (talks_of seats.old) hub.new (talks_of seats.new) }
+    ensures runs { (t : Traffic) × Grows (N.traffic network.old) (N.traffic network.new) t
+        × Runs at_once hub.old (talks_of seats.old) t hub.new (talks_of seats.new)
+        × (t.accepted ≡ []) }
     ensures turns { HaveTheirTurns at_once seats.old seats.new }
 {
     for number in 0..at_once {
-        turn_of(hub, at_once, number, &mut seats[usize::from(number)], now);
+        turn_of(
+            network,
+            hub,
+            at_once,
+            number,
+            &mut seats[usize::from(number)],
+            now,
+        );
     }
 }
 
 /// Accepts what waits, and gives each connection that is ready a turn.
-#[tactic(auto, using(crate::proofs::Rooming::runs_stay, crate::proofs::Rooming::runs_join))]
-fn round(
+fn round<S: Socket + Drop, N: Network<S>>(
     alloc: Global,
-    poll: &Poll,
-    listener: &TcpListener,
+    network: &mut N,
     hub: &mut Hub,
     at_once: u8,
-    seats: &mut Seats,
+    seats: &mut Seats<S>,
     queue: &mut Queue,
     now: Instant,
-) -> Result<(), ServeFault>
+) -> Result<(), AcceptFailed>
     requires { at_once ≤ 16 }
-    ensures runs { Runs at_once hub.old (talks_of seats.old) hub.new (talks_of seats.new) }
-    ensures turns { OnOk result ((between : Hub) × (admitted : List (Option Seat))
-        × Runs at_once hub.old (talks_of seats.old) between (talks_of admitted)
-        × Runs at_once between (talks_of admitted) hub.new (talks_of seats.new)
-        × HaveTheirTurns at_once admitted seats.new) }
+    ensures { (t : Traffic) × Grows (N.traffic network.old) (N.traffic network.new) t
+        × MatchResult result
+        (λ _. IsRound at_once hub.old seats.old t hub.new seats.new)
+        (λ _. Admits at_once hub.old seats.old t hub.new seats.new)
+        × (length t.accepted + queue.new.left ≡ queue.old.left) }
 {
-    admit(alloc, poll, listener, hub, at_once, seats, queue, now)?;
-    turns(hub, at_once, seats, now);
+    admit(alloc, network, hub, at_once, seats, queue, now)?;
+    turns(network, hub, at_once, seats, now);
     Ok(())
 }
 
+/// Whether nobody has a seat.
+fn are_free<S: Socket + Drop>(seats: &Seats<S>) -> bool
+    ensures { IsTrue result → AreFree seats.now }
+{
+    for slot in seats {
+        if slot.is_some() {
+            return false;
+        }
+    }
+    true
+}
+
 /// Serves until every connection that is to be accepted is over.
-#[tactic(auto, using(crate::proofs::Rooming::from_none_stays, crate::proofs::Rooming::runs_begin))]
-fn serve_all<R: Clock>(
-    rt: &R,
+fn serve_all<S: Socket + Drop, N: Network<S>>(
     alloc: Global,
-    poll: &mut Poll,
-    events: &mut Events,
-    listener: &TcpListener,
+    network: &mut N,
     hub: &mut Hub,
+    seats: &mut Seats<S>,
     connections: u32,
     at_once: u8,
 ) -> Result<(), ServeFault>
-    requires { at_once ≤ 16 }
-    ensures { RunsFromNone at_once hub.old hub.new }
+    requires most { at_once ≤ 16 }
+    requires free { AreFree seats.old }
+    ensures { (t : Traffic) × Grows (N.traffic network.old) (N.traffic network.new) t
+        × Serves at_once connections hub.old result t hub.new seats.new }
 {
-    let mut seats: Seats = [
-        None, None, None, None, None, None, None, None, None, None, None, None, None, None, None,
-        None,
-    ];
-    let Ok(begun) = Instant::now(rt) else {
+    let Ok(begun) = network.now() else {
         return Err(ServeFault::WaitFailed);
     };
     let mut queue = Queue {
@@ -268,35 +296,43 @@ fn serve_all<R: Clock>(
         since: begun,
     };
     for _round in 0..u64::MAX {
-        let Ok(now) = Instant::now(rt) else {
+        let Ok(now) = network.now() else {
             return Err(ServeFault::WaitFailed);
         };
-        round(
-            alloc, poll, listener, hub, at_once, &mut seats, &mut queue, now,
-        )?;
-        if queue.left == 0 && seats.iter().all(|seat| seat.is_none()) {
+        let Ok(()) = round(alloc, network, hub, at_once, seats, &mut queue, now) else {
+            return Err(ServeFault::AcceptFailed);
+        };
+        if queue.left == 0 && are_free(seats) {
             return Ok(());
         }
-        let Ok(()) = poll.poll(events, queue.wait_time(&seats, now)) else {
+        let Ok(report) = network.wait(queue.wait_time(seats, now)) else {
             return Err(ServeFault::WaitFailed);
         };
-        note(events, &mut seats, &mut queue, now);
+        note(&report, seats, &mut queue, now);
     }
-    Ok(())
+    Err(ServeFault::WaitFailed)
 }
 
-/// Closes the connections with these numbers.
-#[tactic(auto, using(crate::proofs::Rooming::any_stays, crate::proofs::Rooming::any_leaves))]
-fn close_all(hub: &mut Hub, at_once: u8)
-    ensures runs { RunsFromAny at_once hub.old hub.new }
+/// Closes the connections with these numbers, and takes their sockets back.
+fn leave_all<S: Socket + Drop, N: Network<S>>(
+    network: &mut N,
+    hub: &mut Hub,
+    at_once: u8,
+    seats: &mut Seats<S>,
+)
+    requires { at_once ≤ 16 }
+    ensures runs { (t : Traffic) × Grows (N.traffic network.old) (N.traffic network.new) t
+        × Runs at_once hub.old (talks_of seats.old) t hub.new (talks_of seats.new)
+        × (t.accepted ≡ []) }
+    ensures over { AreOver at_once (talks_of seats.new) }
     ensures closed { AreClosed at_once hub.new }
 {
     for number in 0..at_once {
-        close(hub, number);
+        leave(network, hub, number, &mut seats[usize::from(number)]);
     }
 }
 
-/// Serves this many connections of a listener, up to `at_once` at one time. In its turn, a
+/// Serves this many connections of a network, up to `at_once` at one time. In its turn, a
 /// connection writes what is left of its answers; if nothing is left, it reads a piece of at most
 /// 4,096 bytes, and feeds it to the hub under the connection's number.
 ///
@@ -308,62 +344,26 @@ fn close_all(hub: &mut Hub, at_once: u8)
 ///
 /// A connection has its number from the time when it is accepted until it is closed: what its socket
 /// brings is fed under that number, and what is answered there is written to that socket. What the
-/// connections did to the hub are events one after the other. In the end all these connections of the
-/// hub are closed again, and all others are as they were.
-pub fn serve_together<R: Net + Clock>(
-    rt: &R,
+/// connections did to the hub are events one after the other. In each round every connection that is
+/// ready has its turn. In the end all these connections of the hub are closed again, their sockets
+/// are taken back, and all other connections are as they were.
+pub fn serve_together<S: Socket + Drop, N: Network<S>>(
     alloc: Global,
-    listener: &mut TcpListener,
+    network: &mut N,
     hub: &mut Hub,
     connections: u32,
     at_once: u8,
 ) -> Result<(), ServeFault>
     requires most { at_once ≤ 16 }
     requires closed { AreClosed at_once hub.old }
-    ensures runs { RunsFromNone at_once hub.old hub.new }
+    ensures serves { (t : Traffic) × Grows (N.traffic network.old) (N.traffic network.new) t
+        × IsServed at_once connections hub.old result t hub.new
+        × RunsThrough at_once hub.old t hub.new }
     ensures goes { Goes at_once hub.old hub.new }
     ensures connections { rests_of hub.new ≡ rests_of hub.old }
 {
-    let served = serve_with(rt, alloc, listener, hub, connections, at_once);
-    close_all(hub, at_once);
-    served
-}
-
-/// Watches the listener, and serves.
-#[tactic(auto, using(crate::proofs::Rooming::from_none_stays))]
-fn serve_with<R: Net + Clock>(
-    rt: &R,
-    alloc: Global,
-    listener: &mut TcpListener,
-    hub: &mut Hub,
-    connections: u32,
-    at_once: u8,
-) -> Result<(), ServeFault>
-    requires { at_once ≤ 16 }
-    ensures { RunsFromNone at_once hub.old hub.new }
-{
-    let Ok(mut poll) = Poll::new(rt) else {
-        return Err(ServeFault::WaitFailed);
-    };
-    let Ok(mut events) = Events::with_capacity(alloc, EVENTS) else {
-        return Err(ServeFault::Memory);
-    };
-    let Ok(()) = poll
-        .registry()
-        .register(listener, LISTENER, Interest::READABLE)
-    else {
-        return Err(ServeFault::WaitFailed);
-    };
-    let served = serve_all(
-        rt,
-        alloc,
-        &mut poll,
-        &mut events,
-        listener,
-        hub,
-        connections,
-        at_once,
-    );
-    let _ = poll.registry().deregister(listener);
+    let mut seats = free_seats();
+    let served = serve_all(alloc, network, hub, &mut seats, connections, at_once);
+    leave_all(network, hub, at_once, &mut seats);
     served
 }

@@ -19,7 +19,7 @@ use gql_folder_command::{
 };
 use gql_http::{Hub, pipe, status_of};
 use gql_registry::Registry;
-use gql_server::{NetListener, ServeFault, serve_on, serve_together, status_of_serve};
+use gql_server::{MioNetwork, NetListener, ServeFault, serve_on, serve_together, status_of_serve};
 use gql_wire::DevicePeer;
 use std::mem::forget;
 use std::net::{Ipv4Addr, SocketAddr};
@@ -97,14 +97,18 @@ fn serve_at_once(
     requires closed { AreClosed at_once hub.old }
     requires most { at_once ≤ 16 }
 {
-    let mut listener = match mio::net::TcpListener::bind(rt, local(port)) {
+    let listener = match mio::net::TcpListener::bind(rt, local(port)) {
         Ok(listener) => listener,
         Err(error) => return Err(report_refused(rt, port, &error)),
     };
     if !report_listening(rt) {
         return Err(ServeFault::ReportFailed);
     }
-    serve_together(rt, rt.alloc(), &mut listener, hub, connections, at_once)
+    let mut network = match MioNetwork::new(rt, rt.alloc(), listener) {
+        Ok(network) => network,
+        Err(fault) => return Err(fault),
+    };
+    serve_together(rt.alloc(), &mut network, hub, connections, at_once)
 }
 
 /// Answers the requests of this many connections to a port of 127.0.0.1, so many at one time, by a

@@ -12,6 +12,7 @@ mod faults;
 mod heads;
 mod interleaved;
 mod moves;
+mod networks;
 mod pipes;
 mod profiles;
 mod questions;

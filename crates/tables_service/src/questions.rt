@@ -4,6 +4,7 @@ use crate::cut_streams::{answers_answer, bytes_answer};
 use crate::editing::Editing;
 use crate::heads::head_answer;
 use crate::interleaved::interleaved_answer;
+use crate::networks::network_answer;
 use crate::pipes::pipe_answer;
 use crate::profiles::profile_named;
 use crate::row_files::{RowFiles, parser_answer};
@@ -34,6 +35,7 @@ fn stream_answer(alloc: Global, text: &str, word: &str, rest: &str) -> Option<St
         "bytes" => bytes_answer(alloc, text, rest),
         "connections" => connections_answer(alloc, rest),
         "interleaved" => interleaved_answer(alloc, rest),
+        "network" => network_answer(alloc, rest),
         "pipe" => pipe_answer(alloc, text, rest),
         "head" => head_answer(alloc, rest),
         "sdl" | "any" => parser_answer(alloc, word, text),

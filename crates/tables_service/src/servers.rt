@@ -7,7 +7,7 @@ use crate::bytes::bytes_in;
 use crate::written_answers::written_answers;
 use gql_http::Hub;
 use gql_registry::Registry;
-use gql_server::{NetListener, serve_on, serve_together};
+use gql_server::{MioNetwork, NetListener, serve_on, serve_together};
 use std::io::{Read, Write};
 use std::net::{Ipv4Addr, Shutdown, SocketAddr, TcpListener, TcpStream};
 
@@ -35,10 +35,11 @@ fn serve_at_once(rt: &HostRuntime, hub: &mut Hub, bytes: &[u8]) -> Option<TcpStr
     requires { AreClosed 16 hub.old }
 {
     let any_port = SocketAddr::from((Ipv4Addr::LOCALHOST, 0));
-    let mut listener = mio::net::TcpListener::bind(rt, any_port).ok()?;
+    let listener = mio::net::TcpListener::bind(rt, any_port).ok()?;
     let address = listener.local_addr().ok()?;
     let client = client_of(rt, address, bytes)?;
-    serve_together(rt, rt.alloc(), &mut listener, hub, 1, 16).ok()?;
+    let mut network = MioNetwork::new(rt, rt.alloc(), listener).ok()?;
+    serve_together(rt.alloc(), &mut network, hub, 1, 16).ok()?;
     Some(client)
 }
 

@@ -1,6 +1,7 @@
 use Rattle.std.proofs.Common.{◌≡◌, length}
-use Rattle.gql_server.specs.Rooms.{talks_of}
+use Rattle.gql_server.proofs.Noting.{NotedBelow, SameFrom}
 use Rattle.gql_server.proofs.together.note.Given as goal
 
-abbrev pub invariant-loop-event : goal.invariant-loop-event
-invariant-loop-event l = (talks_of l.seats ≡ talks_of l.fn.seats) × (length l.seats ≡ 16)
+abbrev pub invariant-loop-number : goal.invariant-loop-number
+invariant-loop-number g l = NotedBelow l.number l.report l.fn.seats l.seats
+    × SameFrom l.number l.fn.seats l.seats × (length l.seats ≡ 16)

@@ -1,0 +1,4 @@
+pub mod Cuts
+pub mod Edits
+pub mod Examples
+pub mod Lists
