@@ -32,14 +32,23 @@ fn put_both(
         .put(document.0, Shared::new(alloc, document.1)?)
 }
 
+/// A text as the name of a file.
+fn file_name(alloc: Global, text: &str) -> Result<Option<FileName>, AllocError> {
+    FileName::read(alloc, text, 64)
+}
+
 /// The files of a schema and of a document.
 fn files_of(alloc: Global, schema: &str, document: &str) -> Result<Files, SyntaxFault> {
     let mut files = Files::new(alloc);
-    let (Some(name), Some(client)) = (FileName::read("schema"), FileName::read("client")) else {
-        return Ok(files);
+    let names = (file_name(alloc, "schema"), file_name(alloc, "client"));
+    let (Ok(Some(name)), Ok(Some(client))) = names else {
+        return Err(SyntaxFault::Memory);
     };
-    let schema = parse_sdl(alloc, name.copy(), schema)?;
-    let document = parse_any(alloc, client.copy(), document)?;
+    let (Ok(schema_name), Ok(client_name)) = (name.copy(), client.copy()) else {
+        return Err(SyntaxFault::Memory);
+    };
+    let schema = parse_sdl(alloc, schema_name, schema)?;
+    let document = parse_any(alloc, client_name, document)?;
     match put_both(alloc, &mut files, (name, schema), (client, document)) {
         Ok(()) => Ok(files),
         Err(_) => Err(SyntaxFault::Memory),

@@ -92,7 +92,7 @@ module _ (edits : OneEdit) (calls_one : OneCall) (reports : OneReport) where
 
   pub one_step_lem : OneStep
   one_step_lem s t u (request method target body closing) a b h k =
-      let same = one_call s t u (call_of method target) body h.0 k.0 h.1 k.1 in
+      let same = one_call s t u (call_of (name_limit_in s) method target) body h.0 k.0 h.1 k.1 in
       (h.2 ∙ ap (answer_bytes closing (is_head method)) same.0 ∙ sym k.2, same.1)
   one_step_lem s t u (refused_head refusal bodiless) a b h k = (h.0 ∙ sym k.0, h.1 ∙ sym k.1)
 
