@@ -1,5 +1,5 @@
 -- Which paths give no name.
-use Rattle.std.proofs.Common.{◌≡◌, ◌<◌, ◌≤◌, ◌&&◌, ◌∙◌, ℕ, List, Bool, true, false, refl, sym, ap, subst, length, map, arith, rules, get_or, nat_lt, nat_le, Option, Some, None, if◌then◌else◌}
+use Rattle.std.proofs.Common.{◌≡◌, ◌<◌, ◌≤◌, ◌&&◌, ◌∙◌, ℕ, List, Bool, true, false, refl, sym, ap, subst, length, arith, get_or, nat_lt, nat_le, Some, None, if◌then◌else◌}
 use Rattle.std.proofs.lemmas.List.{get_or-map, length-map}
 use Rattle.std.proofs.lemmas.List.Folds.{list_all_at}
 use Rattle.std.proofs.lemmas.Bool.Decides.{nat_tests}

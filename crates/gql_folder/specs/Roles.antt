@@ -1,5 +1,5 @@
 -- Which file of a registry a path below a folder is: this registry's own rule.
-use Rattle.std.specs.Prelude.{ℕ, ◌-◌, ◌==◌, List, Bool, length, take, drop, map, codes, bytes_eq, nat_eq, if◌then◌else◌}
+use Rattle.std.specs.Prelude.{ℕ, ◌-◌, ◌==◌, List, length, take, drop, map, codes, bytes_eq, nat_eq, if◌then◌else◌}
 use Rattle.std.specs.List.{starts_with, ends_with}
 use Rattle.gql_ast.specs.FileNames.{is_file_name}
 use Rattle.gql_ast.specs.declared.fault.FileSide.{FileSide}

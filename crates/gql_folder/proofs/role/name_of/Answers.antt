@@ -1,4 +1,4 @@
-use Rattle.std.proofs.Common.{rules, arith, refl}
+use Rattle.std.proofs.Common.{rules}
 use Rattle.gql_folder.specs.Roles.{name_at}
 use Rattle.gql_folder.proofs.Names.{no_name, not_ascii, too_long}
 use Rattle.gql_folder.proofs.role.name_of.Goals as goal

@@ -1,4 +1,4 @@
-use Rattle.std.proofs.Common.{rules, refl, sym, ◌∙◌}
+use Rattle.std.proofs.Common.{rules, refl}
 use Rattle.gql_ast.specs.declared.fault.FileSide.TheVariants.{Schema, Documents}
 use Rattle.gql_folder.specs.Folders.{IsFolderFault}
 use Rattle.gql_folder.proofs.Added.{on_ok, if_err, err_of, with_schema, with_document, with_data, with_other, add_fault}
