@@ -1,5 +1,5 @@
 -- What is known of types, each under its name.
-use Rattle.std.proofs.Common.{◌≡◌, inl, inr, ℕ, List, [], ◌∷◌, ◌++◌, None, Some, ap, bytes_eq, subst, sym, ◌∙◌, Contains}
+use Rattle.std.proofs.Common.{◌≡◌, inl, inr, ℕ, List, None, Some, ap, bytes_eq, subst, sym, ◌∙◌, Contains}
 use Rattle.std.specs.Map.{lookup}
 use Rattle.std.proofs.lemmas.List.Elements.{Contains-push_cases}
 use Rattle.std.proofs.lemmas.Map.Views.{Contains-from_lookup}
