@@ -17,7 +17,7 @@ use Rattle.gql_http.specs.Answers.{Said, answer_bytes, edit_said, report_said, r
 use Rattle.gql_http.specs.Connections.{requests_of, joined, held_after, Serves, Breaks}
 use Rattle.gql_http.specs.Events.{with_connection, does_open, does_feed, does_break, does_close, ignores}
 use Rattle.gql_http.specs.Laws.{OneStep, OneRun, OneDeed}
-use Rattle.gql_http.specs.Limits.{limit_in}
+use Rattle.gql_http.specs.Limits.{limit_in, name_limit_in}
 use Rattle.gql_http.specs.Routes.{Call, report, put, remove, put_data, run, refused, call_of}
 use Rattle.gql_http.specs.Service.{Calls, Edits, Run, Runs, calls, gives_text, bad_body, done, more}
 use Rattle.serde_json.specs.Data.{Data}
