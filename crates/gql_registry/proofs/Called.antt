@@ -20,7 +20,7 @@ use Rattle.gql_registry.specs.Calling.{IsOver, IsOutcomeOf, TellsRun}
 use Rattle.gql_registry.specs.Calls.{AreAgainst, Answers, IsResponse, StandsAgainst, of_schema, of_documents, not_run, too_large, served, memory}
 use Rattle.gql_registry.specs.Laws.{AllAreRun}
 use Rattle.gql_registry.specs.Prepared.{outcome_of, prepared_of, ran_of}
-use Rattle.gql_registry.specs.declared.registry.Prepared.{Prepared}
+use Rattle.gql_registry.specs.declared.runs.Prepared.{Prepared}
 use Rattle.gql_registry.specs.Report.{IsSound}
 use Rattle.gql_registry.specs.Report as report
 use Rattle.gql_registry.specs.Runs.{is_run}

@@ -1,6 +1,7 @@
 -- The operation that is found among those that are kept is the one that is chosen.
 use Rattle.std.proofs.Common.{◌≡◌, ◌⊎◌, inl, inr, ℕ, suc, ◌<◌, ◌≤◌, List, [], ◌∷◌, ◌++◌, Bool, true, false, cond, filter, find, get_or, length, flat_map, map, bytes_eq, refl, ap, sym, subst, ◌∙◌, Contains, Option, Some, None, option_map, arith}
-use Rattle.std.specs.Prelude.{◌↔◌}
+use Rattle.std.specs.Prelude.{◌↔◌, MatchOption}
+use Rattle.std.specs.Borrow.{Bor}
 use Rattle.std.specs.List.{AllByRecursion, AllPairs, slice_get}
 use Rattle.std.specs.List.Sorted.{IsStrictlySortedBy}
 use Rattle.std.specs.Map.{keys_of}
@@ -80,7 +81,7 @@ module _ (name : List ℕ) where
 
   -- a search in two lists
   found_append : {A : Type 0} (p : A → Bool) (of : A → Definition) (xs ys : List A) → option_map of (find p (xs ++ ys)) ≡ option_or (option_map of (find p xs)) (option_map of (find p ys))
-  found_append p of xs ys = ap (option_map of) (find-append p xs ys) ∙ by (find p xs) (find p ys)
+  found_append {A = A} p of xs ys = ap (option_map of) (find-append p xs ys) ∙ by (find p xs) (find p ys)
     where
       by : (a b : Option A) → option_map of (option_or a b) ≡ option_or (option_map of a) (option_map of b)
       by None b = refl
@@ -164,11 +165,11 @@ kept_in_order (f ∷ fs) sorted = pairs_append Earlier (kept_in f.0 (Some f.1)) 
 -- what is found first is the first of what passes
 find_head : {A : Type 0} (p : A → Bool) (xs : List A) → find p xs ≡ slice_get (filter p xs) 0
 find_head p [] = refl
-find_head p (x ∷ xs) = by (p x)
+find_head p (x ∷ xs) = by (p x) (find_head p xs)
   where
-    by : (b : Bool) → cond b (Some x) (find p xs) ≡ slice_get (cond b (x ∷ filter p xs) (filter p xs)) 0
-    by true = refl
-    by false = find_head p xs
+    by : (b : Bool) → find p xs ≡ slice_get (filter p xs) 0 → cond b (Some x) (find p xs) ≡ slice_get (cond b (x ∷ filter p xs) (filter p xs)) 0
+    by true e = refl
+    by false e = e
 
 -- operations of one name are in the order of the files
 same_name_order : (a b : KeptOperation) (name : List ℕ) → is_eq (title_order a.name (Some name)) ≡ true → is_eq (title_order b.name (Some name)) ≡ true → operation_order a b ≡ Less → file_order a b ≡ Less
@@ -228,3 +229,15 @@ same_only (x ∷ w ∷ xs) (y ∷ z ∷ ys) up vp same = refl
 
 pub chosen_only : (documents : List (List ℕ × Document)) (o : Operations) → IsIndexOf documents o → only_kept o.all ≡ chosen documents None
 chosen_only documents o index = same_only o.all (kept_operations documents) index.ordered (kept_in_order documents index.files) index.items ∙ ap only (kept_definitions documents)
+
+-- what the first two of a list say: there is none, one only, or more
+pub none_kept : (all : List KeptOperation) → all ≡ [] → None ≡ only_kept all
+none_kept all e = sym (ap only_kept e)
+
+pub one_kept : (all rest : List KeptOperation) (x : KeptOperation) → all ≡ x ∷ rest → rest ≡ [] → Some x.definition ≡ only_kept all
+one_kept all rest x e none = sym (ap only_kept (e ∙ ap (λ zs. x ∷ zs) none))
+
+pub more_kept : (all rest last : List KeptOperation) (first : Option (Bor KeptOperation)) (y : KeptOperation)
+    → MatchOption first ((all ≡ []) × (rest ≡ [])) (λ x. all ≡ x.now ∷ rest) → rest ≡ y ∷ last → None ≡ only_kept all
+more_kept all rest last None y none e = absurd (let t : [] ≡ y ∷ last = sym none.1 ∙ e in cc t)
+more_kept all rest last (Some x) y is e = sym (ap only_kept (is ∙ ap (λ zs. x.now ∷ zs) e))

@@ -18,6 +18,8 @@ use Rattle.gql_ast.specs.declared.definition.Document.{Document}
 use Rattle.gql_ast.specs.declared.definition.Tree.{Tree}
 use Rattle.gql_ast.specs.declared.definition.Tree.TheVariants as tree
 use Rattle.gql_chunks.specs.Edits.{IsEdited, IsFree}
+use Rattle.gql_chunks.specs.Lists.{AreInOrder}
+use Rattle.gql_chunks.proofs.Members.{pairs_none}
 use Rattle.gql_facts.specs.ListMembers.{Contains-cases, Contains-here, Contains-nil, Contains-there}
 use Rattle.gql_registry.specs.Indexed.{AreOperationsIn, HaveSame, IsIndexOf, IsWith, kept_as, kept_by, kept_from, kept_in, kept_operations}
 use Rattle.gql_registry.specs.OperationLaws.{operation_total}
@@ -365,3 +367,7 @@ index_more done f rest before comes after sorted same coming edited x =
         | inr c ↦ inl ((coming x).1 c)
       ]),
     )
+
+-- no files have no operations
+pub no_files : (none : List KeptOperation) → none ≡ [] → HaveSame none (kept_operations []) × AreInOrder operation_order none
+no_files none e = subst (λ (zs : List KeptOperation). HaveSame zs [] × AreInOrder operation_order zs) (sym e) (λ x. (λ m. m, λ m. m), pairs_none (λ (a b : KeptOperation). operation_order a b ≡ Less))

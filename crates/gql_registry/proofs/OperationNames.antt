@@ -1,8 +1,9 @@
 -- The names of operations that are kept: which are found, and whether there are some.
 use Rattle.std.proofs.Common.{◌≡◌, ◌⊎◌, inl, inr, ℕ, List, [], ◌∷◌, ◌++◌, Bool, true, false, cond, find, flat_map, refl, ap, sym, subst, ◌∙◌, Contains, Option, Some, None, IsTrue}
-use Rattle.std.specs.Prelude.{◌↔◌, is_some}
+use Rattle.std.specs.Prelude.{◌↔◌, is_some, not}
+use Rattle.std.specs.Borrow.{Bor}
 use Rattle.std.specs.List.{slice_get}
-use Rattle.std.specs.Option.{option_to_list}
+use Rattle.std.specs.Option.{option_copied, option_to_list}
 use Rattle.std.specs.Ordering.{is_eq, ordering_then}
 use Rattle.std.specs.declared.cmp.Ordering.{Ordering}
 use Rattle.std.specs.declared.cmp.Ordering.TheVariants.{Less, Equal, Greater}
@@ -58,6 +59,11 @@ missing_name name xs e m =
     let f = Contains-flat_map_from own_name xs name m in
     missing name xs e f.0 f.1 (own_from f.0.name name f.2)
 
+-- what is found behind a reference is found
+pub some_copied : (o : Option (Bor KeptOperation)) → is_some o ≡ is_some (option_copied o)
+some_copied None = refl
+some_copied (Some x) = refl
+
 pub is_there : (name : List ℕ) (xs : List KeptOperation) (found : Option KeptOperation) (there : Bool) → there ≡ is_some found → found ≡ find (has_name name) xs → IsTrue there ↔ Contains (names_in xs) name
 is_there name xs None true e f = absurd (cc e)
 is_there name xs None false e f = (λ t. absurd (cc t), λ m. absurd (missing_name name xs (sym f) m))
@@ -79,7 +85,7 @@ pub none_first : (xs : List KeptOperation) → None ≡ slice_get xs 0 → names
 none_first [] e = refl
 none_first (x ∷ xs) e = absurd (let t : None ≡ Some x = e in cc t)
 
-pub unnamed_first : (xs : List KeptOperation) (x : KeptOperation) → AreInOrder operation_order xs → Some x ≡ slice_get xs 0 → x.name ≡ None → names_in xs ≡ []
+unnamed_first : (xs : List KeptOperation) (x : KeptOperation) → AreInOrder operation_order xs → Some x ≡ slice_get xs 0 → x.name ≡ None → names_in xs ≡ []
 unnamed_first [] x up e none = refl
 unnamed_first (y ∷ ys) x up e none =
     let same : x ≡ y = let t : Some x ≡ Some y = e in cc t in
@@ -89,10 +95,20 @@ unnamed_first (y ∷ ys) x up e none =
       | inr l ↦ unnamed_after y.name z.name (file_order y z) first (pairs_head (λ a b. operation_order a b ≡ Less) y ys up z l)
     ])
 
-pub named_first : (xs : List KeptOperation) (x : KeptOperation) (name : List ℕ) → Some x ≡ slice_get xs 0 → x.name ≡ Some name → names_in xs ≡ [] → ⊥
+named_first : (xs : List KeptOperation) (x : KeptOperation) (name : List ℕ) → Some x ≡ slice_get xs 0 → x.name ≡ Some name → names_in xs ≡ [] → ⊥
 named_first [] x name e some none = absurd (let t : Some x ≡ None = e in cc t)
 named_first (y ∷ ys) x name e some none =
     let same : x ≡ y = let t : Some x ≡ Some y = e in cc t in
     let title : y.name ≡ Some name = sym (ap (λ (k : KeptOperation). k.name) same) ∙ some in
     let c : name ∷ names_in ys ≡ [] = sym (ap (λ (t : Option (List ℕ)). option_to_list t ++ names_in ys) title) ∙ none in
     cc c
+
+-- there are no names exactly if the first operation has none
+pub first_is_unnamed : (xs : List KeptOperation) (x : KeptOperation) (none : Bool) → AreInOrder operation_order xs → Some x ≡ slice_get xs 0 → is_some x.name ≡ not none → IsTrue none ↔ (names_in xs ≡ [])
+first_is_unnamed xs x none up e is = by x.name none refl is
+  where
+    by : (title : Option (List ℕ)) (none : Bool) → x.name ≡ title → is_some title ≡ not none → IsTrue none ↔ (names_in xs ≡ [])
+    by None true t is = (λ h. unnamed_first xs x up e t, λ h. refl)
+    by None false t is = absurd (let c : false ≡ true = is in cc c)
+    by (Some name) true t is = absurd (let c : true ≡ false = is in cc c)
+    by (Some name) false t is = (λ h. absurd (cc h), λ h. absurd (named_first xs x name e t h))

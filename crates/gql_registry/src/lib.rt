@@ -18,8 +18,10 @@ mod reading;
 mod refusal;
 mod registry;
 mod report;
+mod runs;
 mod sides;
 
 pub use loading::{GivenPut, PutRefusal};
 pub use refusal::{Refusal, syntax_message};
-pub use registry::{Edited, Prepared, Registry, Reply};
+pub use registry::{Edited, Registry};
+pub use runs::{Prepared, Reply};

@@ -203,6 +203,7 @@ impl NameSet for Operations {
     }
 
     fn is_empty(&self) -> bool {
+        let _in_order = self.all.iter();
         match self.all.first() {
             Some(operation) => operation.name.is_none(),
             None => true,

@@ -6,4 +6,4 @@ use Rattle.gql_registry.specs.OperationOrders.{operation_order}
 use Rattle.gql_registry.proofs.operations.Operations.new.Given as goal
 
 abbrev pub invariant-loop-name : goal.invariant-loop-name
-invariant-loop-name l = (done : List (List ℕ × Document)) × (done ++ l._name-iterator ≡ l.documents) × HaveSame l.all (kept_operations done) × AreInOrder operation_order l.all
+invariant-loop-name l = (done : List (List ℕ × Document)) × (done ++ l.name-iterator ≡ l.documents) × HaveSame l.all (kept_operations done) × AreInOrder operation_order l.all
