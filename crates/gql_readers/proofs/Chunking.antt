@@ -1,11 +1,11 @@
 -- A list in chunks, and its edits.
-use Rattle.std.proofs.Common.{◌≡◌, ◌⊎◌, inl, inr, ℕ, ◌<◌, ◌≤◌, ◌+◌, ◌-◌, List, [], ◌∷◌, ◌++◌, Bool, true, false, cond, Option, Some, None, append_assoc, append-nil, filter, take, drop, length, get_or, refl, ap, sym, subst, ◌∙◌, Contains, arith}
+use Rattle.std.proofs.Common.{◌≡◌, inl, inr, ℕ, ◌<◌, ◌≤◌, ◌+◌, ◌-◌, List, [], ◌∷◌, ◌++◌, Bool, true, false, cond, Some, None, append_assoc, append-nil, filter, take, drop, length, get_or, refl, ap, sym, subst, ◌∙◌, Contains, arith}
 use Rattle.std.specs.Cmp.{IsTotalOrder}
 use Rattle.std.specs.List.{AllPairs}
 use Rattle.std.specs.Ordering.{is_eq, is_gt, is_lt, ordering_reverse}
 use Rattle.std.specs.Prelude.{slice_get}
 use Rattle.std.specs.declared.cmp.Ordering.{Ordering}
-use Rattle.std.specs.declared.cmp.Ordering.TheVariants.{Less, Equal, Greater}
+use Rattle.std.specs.declared.cmp.Ordering.TheVariants.{Less, Greater}
 use Rattle.std.proofs.lemmas.Grind.{flat_map-append}
 use Rattle.std.proofs.lemmas.List.{drop_all, drop_more, length-drop, take-append-drop, take_more, take_rest}
 use Rattle.std.proofs.lemmas.List.Elements.{Contains-append_cases, Contains-append_left, Contains-append_right, Contains-get_or, Contains-push_cases, filter-append}
@@ -164,11 +164,11 @@ before_more id x xs i within e lt low = λ y m. elim (Contains-push_cases (take 
 ]
 
 not_before : (id x y : DefinitionId) → is_lt (id_order y id) ≡ false → id_order x id ≡ Less → id_order x y ≡ Less
-not_before id x y from lt = elim (by_order (id_order id y)) [
+not_before id x y late lt = elim (by_order (id_order id y)) [
   | inl l ↦ id_total.trans x id y lt l
   | inr o ↦ elim o [
     | inl e ↦ subst (λ z. id_order x z ≡ Less) (id_exact id y e) lt
-    | inr g ↦ absurd (let t : true ≡ false = sym (ap is_lt (id_total.antisymm y id ∙ ap ordering_reverse g)) ∙ from in cc t)
+    | inr g ↦ absurd (let t : true ≡ false = sym (ap is_lt (id_total.antisymm y id ∙ ap ordering_reverse g)) ∙ late in cc t)
   ]
 ]
 
@@ -189,10 +189,13 @@ ahead_first id first next ids up at low from =
       after = λ xs both. next_after id next ids xs there from both;
     }
 
+pub next_none : (xs changed : List DefinitionId) → changed ≡ [] → IsNextAbove id_order itself itself xs changed
+next_none xs changed none = subst (λ zs. IsNextAbove id_order itself itself xs zs) (sym none) tt
+
 pub ahead_none : (first next ids : List DefinitionId) → ids ≡ [] → next ≡ [] → AreAhead first next ids
 ahead_none first next ids none end = record {
   before = λ x y m n. absurd (Contains-nil y (subst (λ zs. Contains zs y) none n));
-  after = λ xs up. subst (λ zs. IsNextAbove id_order itself itself xs zs) (sym end) tt;
+  after = λ xs up. next_none xs next end;
 }
 
 -- ---- an edit, chunk by chunk
@@ -270,3 +273,6 @@ pieces_more before now rest all n e so_far =
 
 pub rest_shorter : {A : Type 0} (rest : List A) (n : ℕ) → 0 < n → n ≤ length rest → length (take (length rest - n) (drop n rest)) < length rest
 rest_shorter rest n some within = subst (λ m. m < length rest) (sym (ap length (take_rest rest n) ∙ length-drop n rest)) (omega (arith, some, within))
+
+pub rest_within : {A : Type 0} (rest : List A) (n : ℕ) → length (take (length rest - n) (drop n rest)) ≤ length rest
+rest_within rest n = subst (λ m. m ≤ length rest) (sym (ap length (take_rest rest n) ∙ length-drop n rest)) (omega arith)

@@ -1,10 +1,14 @@
-use Rattle.std.proofs.Common.{◌++◌, ap, arith}
+use Rattle.std.proofs.Common.{◌++◌, ap, arith, sym}
+use Rattle.std.proofs.lemmas.List.{length-take-le}
 use Rattle.gql_readers.specs.Chunks.{joined}
 use Rattle.gql_readers.proofs.Chunking.{pieces_more, rest_shorter}
 use Rattle.gql_readers.proofs.reader_list.add_pieces.Goals as goal
 
 pub pieces-init : goal.pieces-init
 pieces-init c = ap (λ zs. joined c.args.all.now.items ++ zs) c.as_slice-rest.ensures.value
+
+pub slice_bounds-add_piece-end : goal.slice_bounds-add_piece-end
+slice_bounds-add_piece-end c = sym (length-take-le 64 c.pieces.rest.now (omega (arith, c.pieces-test.true)))
 
 pub pieces-smaller : goal.pieces-smaller
 pieces-smaller c = rest_shorter c.pieces.rest.now 64 (omega arith) (omega arith)

@@ -1,9 +1,9 @@
-use Rattle.std.proofs.Common.{◌≡◌, ◌∙◌, ◌∷◌, ◌+◌, List, ap, arith, drop, false, rules, subst, sym, true}
+use Rattle.std.proofs.Common.{◌≡◌, ◌∙◌, ◌∷◌, ◌+◌, List, ap, drop, false, rules, subst, sym, true}
 use Rattle.std.specs.Ordering.{is_lt}
-use Rattle.std.proofs.lemmas.List.{drop_all, drop_more, take_all}
+use Rattle.std.proofs.lemmas.List.{drop_more}
 use Rattle.gql_ast.specs.declared.definition.DefinitionId.{DefinitionId}
 use Rattle.gql_facts.specs.ListMembers.{Contains-nil}
-use Rattle.gql_readers.specs.Chunks.{AreBefore, IsNextFrom}
+use Rattle.gql_readers.specs.Chunks.{IsNextFrom}
 use Rattle.gql_readers.specs.Orders.{id_order}
 use Rattle.gql_readers.proofs.Chunking.{before_more}
 use Rattle.gql_readers.proofs.Merging.{is_less}
@@ -25,10 +25,3 @@ loop-i-preserved c =
     let x = c.index-changed-i.result in
     let low : is_lt (id_order x c.args.id.now) ≡ true = search rules in
     before_more c.args.id.now x c.args.changed.now c.loop-i.i c.loop-i-test.true c.index-changed-i.is (is_less (id_order x c.args.id.now) low) c.loop-i.invariant
-
-pub returns-clause-before : goal.returns-clause-before
-returns-clause-before c = subst (λ (zs : List DefinitionId). AreBefore c.args.id.now zs)
-    (take_all c.loop-i.i c.args.changed.now (omega arith) ∙ sym (take_all c.len-count.result c.args.changed.now (omega arith))) c.loop-i.invariant
-
-pub returns-clause-next : goal.returns-clause-next
-returns-clause-next c = subst (λ (zs : List DefinitionId). IsNextFrom c.args.id.now zs) (sym (drop_all c.len-count.result c.args.changed.now (omega arith))) tt

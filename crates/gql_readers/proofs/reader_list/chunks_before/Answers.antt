@@ -3,7 +3,7 @@ use Rattle.gql_ast.specs.declared.definition.DefinitionId.{DefinitionId}
 use Rattle.gql_readers.specs.Chunks.{AreBefore, IsNextAbove, joined}
 use Rattle.gql_readers.specs.Merged.{itself}
 use Rattle.gql_readers.specs.Orders.{id_order}
-use Rattle.gql_readers.proofs.Chunking.{first_is, none_first}
+use Rattle.gql_readers.proofs.Chunking.{first_is, next_none, none_first}
 use Rattle.gql_readers.proofs.reader_list.chunks_before.Goals as goal
 
 pub returns-in-Some-clause-next : goal.returns-in-Some-clause-next
@@ -14,4 +14,4 @@ returns-in-Some-clause-next c =
     (subst (λ (i : DefinitionId). AreBefore i (joined (take n cs))) c.get.ensures c.chunks_below.ensures.before)
 
 pub returns-in-None-clause-next : goal.returns-in-None-clause-next
-returns-in-None-clause-next c = subst (λ (zs : List DefinitionId). IsNextAbove id_order itself itself (joined (take _ c.args.chunks.now)) zs) (sym (none_first c.args.changed.now (sym c.in-None.ensures.value))) tt
+returns-in-None-clause-next c = next_none _ c.args.changed.now (none_first c.args.changed.now (sym c.in-None.ensures.value))

@@ -1,4 +1,4 @@
-use Rattle.std.proofs.Common.{◌≡◌, ◌∙◌, [], None, Some, ap, false, refl, sym, true}
+use Rattle.std.proofs.Common.{◌≡◌, ◌∙◌, None, Some, ap, false, refl, sym, true}
 use Rattle.std.specs.Prelude.{slice_get}
 use Rattle.gql_readers.specs.Chunks.{joined}
 use Rattle.gql_readers.proofs.Chunking.{none_first}
