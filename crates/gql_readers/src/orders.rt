@@ -95,6 +95,7 @@ pub struct Sought<'k> {
 
 impl<'k> Model for Sought<'k> {
     ghost use Rattle.std.specs.Coded.{codes};
+    ghost use Rattle.std.specs.Prelude.{◌≡◌};
     ghost use Rattle.gql_facts.specs.contracts.key.Key as contracts;
     ghost use Rattle.gql_facts.specs.declared.key.Key.{Key};
     ghost use Rattle.gql_readers.specs.Orders.{key_print};
@@ -127,6 +128,7 @@ pub struct OrderedKey {
 
 impl Model for OrderedKey {
     ghost use Rattle.std.specs.Coded.{codes};
+    ghost use Rattle.std.specs.Prelude.{◌≡◌};
     ghost use Rattle.gql_facts.specs.contracts.key.Key as contracts;
     ghost use Rattle.gql_facts.specs.declared.key.Key.{Key};
     ghost use Rattle.gql_readers.specs.Orders.{key_print};
