@@ -66,6 +66,15 @@ new_file_keeps files name document brings sound =
 
 -- ---- names that are looked up
 
+-- a look-up that finds a file does not find none
+pub none_there : {A : Type 0} (found : Option (Bor A)) → is_some found ≡ true → option_copied found ≡ None → ⊥
+none_there None some none =
+    let z : false ≡ true = some in
+    cc z
+none_there (Some x) some none =
+    let z : Some x.now ≡ None = none in
+    cc z
+
 module _ {A : Type 0} (name : A → List ℕ) (q : List ℕ) where
   -- where a look-up finds nothing, no thing has the name
   none_named : (xs : List A) → find (λ x. bytes_eq q (name x)) xs ≡ None → IsNoneOf (map name xs) q

@@ -35,6 +35,13 @@ fn is_free<T: HasName>(all: &Named<T>, name: &str) -> bool
     all.get(name).is_none()
 }
 
+/// Whether an operation of this name is none of these.
+fn is_new<O: NameSet>(operations: &O, name: &str) -> bool
+    ensures { IsTrue result ↔ spec.IsNoneOf (O.names operations.now) name.now }
+{
+    !operations.has(name)
+}
+
 /// Whether a definition is an operation or a fragment with a name, and none of its kind among these
 /// has it.
 fn has_new_name<O: NameSet>(tree: &Tree, operations: &O, fragments: &Fragments) -> bool
@@ -43,7 +50,7 @@ fn has_new_name<O: NameSet>(tree: &Tree, operations: &O, fragments: &Fragments) 
 {
     match tree {
         Tree::Operation(operation) => match &operation.get().name {
-            Some(name) => !operations.has(name.as_str()),
+            Some(name) => is_new(operations, name.as_str()),
             None => false,
         },
         Tree::Fragment(fragment) => is_free(&fragments.all, fragment.get().name.as_str()),

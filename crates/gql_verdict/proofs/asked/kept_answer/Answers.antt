@@ -4,8 +4,8 @@ use Rattle.gql_reads.specs.declared.observation.Answer.{Answer}
 use Rattle.gql_verdict.proofs.AskedKeys.{asked_led}
 use Rattle.gql_verdict.proofs.asked.kept_answer.Goals as goal
 
-pub returns-in-Some : goal.returns-in-Some
-returns-in-Some c =
+pub returns-else-is_empty : goal.returns-else-is_empty
+returns-else-is_empty c =
     let e = c.in-Some.entry.now in
     subst (λ (a : Answer). IsLed a) (sym c.answer.ensures)
     (asked_led c.args.slots.now c.args.index.now c.requires c.args.key.now e c.in-Some.ensures.0
