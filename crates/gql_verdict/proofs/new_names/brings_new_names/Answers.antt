@@ -1,4 +1,4 @@
-use Rattle.std.proofs.Common.{◌≡◌, ◌<◌, ◌∙◌, ap, rules, sym, subst, length, [], false, true, None}
+use Rattle.std.proofs.Common.{◌≡◌, ◌<◌, ◌∙◌, ap, rules, sym, length, [], false, true, None}
 use Rattle.gql_ast.specs.FileMaps.{file_named}
 use Rattle.gql_verdict.specs.Definitions.{all_definitions}
 use Rattle.gql_verdict.specs.NameFaults.{faults_of}
