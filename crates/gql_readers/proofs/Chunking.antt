@@ -164,19 +164,11 @@ before_more id x xs i within e lt low = λ y m. elim (Contains-push_cases (take 
 ]
 
 not_before : (id x y : DefinitionId) → is_lt (id_order y id) ≡ false → id_order x id ≡ Less → id_order x y ≡ Less
-<<<<<<< HEAD
 not_before id x y late lt = elim (by_order (id_order id y)) [
   | inl l ↦ id_total.trans x id y lt l
   | inr o ↦ elim o [
     | inl e ↦ subst (λ z. id_order x z ≡ Less) (id_exact id y e) lt
     | inr g ↦ absurd (let t : true ≡ false = sym (ap is_lt (id_total.antisymm y id ∙ ap ordering_reverse g)) ∙ late in cc t)
-=======
-not_before id x y from lt = elim (by_order (id_order id y)) [
-  | inl l ↦ id_total.trans x id y lt l
-  | inr o ↦ elim o [
-    | inl e ↦ subst (λ z. id_order x z ≡ Less) (id_exact id y e) lt
-    | inr g ↦ absurd (let t : true ≡ false = sym (ap is_lt (id_total.antisymm y id ∙ ap ordering_reverse g)) ∙ from in cc t)
->>>>>>> 60f5edced742242fa2b129561d99427e841f3d58
   ]
 ]
 
