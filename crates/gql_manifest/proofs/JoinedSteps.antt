@@ -126,8 +126,8 @@ module _ (most : ℕ) where
   names_step side files count old new f path names within is its_path adds =
       let there : slice_get files count ≡ Some f = slice_get-get_or files count f within ∙ ap Some (sym is) in
       elim adds [
-        | inl none ↦ subst (AreNames most side files (count + 1)) (sym none.1) (names_same side files count old f names there (λ name has. none.0 name (ap role_at most its_path ∙ has)))
-        | inr one ↦ names_more side files count old new one.0 f names there (sym (ap role_at most its_path) ∙ one.1) one.2
+        | inl none ↦ subst (AreNames most side files (count + 1)) (sym none.1) (names_same side files count old f names there (λ name has. none.0 name (ap (role_at most) its_path ∙ has)))
+        | inr one ↦ names_more side files count old new one.0 f names there (sym (ap (role_at most) its_path) ∙ one.1) one.2
       ]
 
   -- where no file of a side has the name, none has it at all
