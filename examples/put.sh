@@ -17,8 +17,8 @@ for file in "$@"; do
             exit 2
             ;;
     esac
-    if [ "${#name}" -gt 64 ]; then
-        echo "put.sh: a name has at most 64 characters: $file" >&2
+    if [ "${#name}" -gt 255 ]; then
+        echo "put.sh: a name has at most 255 characters: $file" >&2
         exit 2
     fi
     case $names in

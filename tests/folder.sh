@@ -47,10 +47,18 @@ has 'a link that leads back' 2 'bad/schema' "$gqlreg" check bad
 rm -r bad/schema/more
 long=a123456789b123456789c123456789d123456789e123456789f123456789g1234
 cp bad/schema/a.graphql bad/schema/$long.graphql
-has 'a name of 65 characters' 2 'has a name that is not accepted' "$gqlreg" check bad
+has 'a name of 65 characters' 1 '^2 faults in 2 files' "$gqlreg" check bad
+has 'a name of 65 characters, of which a registry takes 64' 2 \
+    'has a name that is not accepted: 1 to 64 letters' "$gqlreg" check bad --profile whole-numbers
 mv bad/schema/$long.graphql bad/schema/${long%4}.graphql
-has 'a name of 64 characters' 1 '^2 faults in 2 files' "$gqlreg" check bad
+has 'a name of 64 characters' 1 '^2 faults in 2 files' "$gqlreg" check bad --profile whole-numbers
 rm bad/schema/${long%4}.graphql
+mkdir -p bad/schema/$long/$long/$long
+cp bad/schema/a.graphql bad/schema/$long/$long/$long/${long%???????}.gql
+has 'a name of 256 characters' 2 'has a name that is not accepted: 1 to 255 letters' "$gqlreg" check bad
+mv bad/schema/$long/$long/$long/${long%???????}.gql bad/schema/$long/$long/$long/${long%????????}.gql
+has 'a name of 255 characters' 1 '^2 faults in 2 files' "$gqlreg" check bad
+rm -r bad/schema/$long
 # a user that cannot read all files
 apart=
 [ "$(id -u)" != 0 ] || apart='setpriv --reuid=65534 --regid=65534 --clear-groups'

@@ -229,6 +229,48 @@ def bytes_of_files(program, profile):
             yield "check of %d bytes" % length, (2, limit), (status, said)
 
 
+def named(length):
+    """A name of so many characters, with each kind of them."""
+    return ("Az_9.-" * length)[:length]
+
+
+def routes_of_names(program, profile):
+    """The name of a file in a request: of as many characters as it may have, and of one more."""
+    most = of_profile(profile, 64, 255)
+    for length, wanted in ((1, 200), (64, 200), (65, of_profile(profile, 305, 200)), (most, 200), (most + 1, 305),
+                           (4000, 305)):
+        name = named(length)
+        found = codes(program, profile, [request("PUT", "/schema/" + name, QUERY),
+                                         request("PUT", "/documents/" + name, "{ b }"),
+                                         request("POST", "/documents/" + name, ""),
+                                         request("PUT", "/schema/" + name + "?revision=0", QUERY)])
+        method, revision = (305, 305) if wanted == 305 else (306, 206)
+        if found != [(wanted, False), (wanted, False), (method, False), (revision, False)]:
+            yield "a name of %d characters" % length, wanted, found
+    name = named(most)
+    found = pipe(program, profile, [request("PUT", "/schema/" + name, QUERY),
+                                    request("PUT", "/documents/" + name, "{ b }"), REPORT,
+                                    request("DELETE", "/documents/" + name), REPORT])
+    wanted = [("V04", "b", ("documents/%s 1:3" % name,), "documents/%s 1:1" % name)]
+    if (reported_faults(found[2][1]), reported_faults(found[4][1])) != (wanted, []):
+        yield "the faults of a file of a long name", wanted, found
+
+
+def names_in_a_folder(program, profile):
+    """The name of a file of a folder, with those of its folders: of as many characters as it may have, and of one
+    more."""
+    most = of_profile(profile, 64, 255)
+    for length, wanted in ((64, 1), (65, of_profile(profile, 2, 1)), (most, 1), (most + 1, 2)):
+        name = "a" * 31 + "/" + "b" * ((length - 33) // 2) + "/"
+        name += "c" * (length - len(name))
+        path = "documents/%s.graphql" % name
+        status, printed, said = check(program, profile, {"schema/s.graphql": QUERY, path: "{ b }"})
+        reason = "has a name that is not accepted: 1 to %d letters, digits, `_`, `.` and `-`" % most
+        expected = "DIR/%s %s\n" % (path, reason) if wanted == 2 else ""
+        if (status, said) != (wanted, expected):
+            yield "check of a name of %d characters" % length, (wanted, expected), (status, printed, said)
+
+
 def numbers_of_files(program, profile):
     """As many files of a kind as there may be, and one more: documents of a pipe, schema files of a check."""
     most, text = of_profile(profile, (256, "256"), (10000, "10,000"))
@@ -280,7 +322,8 @@ def one_type_twice(program, profile):
             yield "faults", wanted, answer
 
 
-LIMITS = (bytes_of_schema, bytes_of_document, bytes_of_files, numbers_of_files, values_of_answer, one_type_twice)
+LIMITS = (bytes_of_schema, bytes_of_document, bytes_of_files, routes_of_names, names_in_a_folder, numbers_of_files,
+          values_of_answer, one_type_twice)
 
 
 # ---- which profile is the one where none is named

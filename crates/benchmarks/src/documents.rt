@@ -1,5 +1,5 @@
 //! How fast an executable document of 64 KiB is parsed.
-use crate::speed::{document, speed};
+use crate::speed::{LONGEST_NAME, document, speed};
 use anyhow::Result;
 use gql_ast::FileName;
 use gql_parse::parse;
@@ -11,7 +11,7 @@ const ROUNDS: u64 = 100;
 /// How many definitions a text has, or 0 if it is refused.
 #[inline(never)]
 fn definition_count(alloc: Global, text: &str) -> u64 {
-    let Some(file) = FileName::read("bench") else {
+    let Ok(Some(file)) = FileName::read(alloc, "bench", LONGEST_NAME) else {
         return 0;
     };
     match parse(alloc, file, text) {

@@ -1,6 +1,6 @@
 //! How fast a schema file of 64 KiB is parsed and split into tokens, and how long schemas of more
 //! and more types take to be put together: the time for each type of schemas of up to 10,000 types.
-use crate::speed::{nanos_each, speed, token_count};
+use crate::speed::{LONGEST_NAME, nanos_each, speed, token_count};
 use anyhow::Result;
 use gql_ast::{FileName, Files, Shared};
 use gql_parse_sdl::parse_sdl;
@@ -36,7 +36,7 @@ fn schema(alloc: Global) -> Result<String, AllocError> {
 /// How many definitions a text has, or 0 if it is refused.
 #[inline(never)]
 fn definition_count(alloc: Global, text: &str) -> u64 {
-    let Some(file) = FileName::read("bench") else {
+    let Ok(Some(file)) = FileName::read(alloc, "bench", LONGEST_NAME) else {
         return 0;
     };
     match parse_sdl(alloc, file, text) {
@@ -62,8 +62,8 @@ fn files(alloc: Global, count: usize) -> Result<Files> {
     let mut files = Files::new(alloc);
     for name in FILES.iter().take(count) {
         let text = types(alloc, name)?;
-        if let Some(file) = FileName::read(name) {
-            if let Ok(document) = parse_sdl(alloc, file.copy(), text.as_str()) {
+        if let Some(file) = FileName::read(alloc, name, LONGEST_NAME)? {
+            if let Ok(document) = parse_sdl(alloc, file.copy()?, text.as_str()) {
                 files.schema.put(file, Shared::new(alloc, document)?)?;
             }
         }

@@ -6,6 +6,9 @@ use std::time::Duration;
 const LINE: &str =
     "query Find($id: ID!) { user(id: $id) { name, friends(first: 10) { id name } } } # one\n";
 
+/// The most bytes of the name of a file.
+pub const LONGEST_NAME: usize = 64;
+
 /// A document of nearly 64 KiB.
 pub fn document(alloc: Global) -> Result<String, AllocError> {
     let mut text = String::new(alloc);

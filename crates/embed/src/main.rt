@@ -8,9 +8,12 @@ use gql_grammar::SyntaxFault;
 use gql_parse::parse;
 use std::io;
 
+/// The most bytes of the name of a file.
+const LONGEST_NAME: usize = 64;
+
 fn main(rt: HostRuntime) -> Result<()> {
     let text = io::read_to_string(rt.alloc(), rt.stdin())?;
-    let Some(file) = FileName::read("input") else {
+    let Some(file) = FileName::read(rt.alloc(), "input", LONGEST_NAME)? else {
         return Ok(());
     };
     match parse(rt.alloc(), file, text.as_str()) {

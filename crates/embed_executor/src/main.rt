@@ -18,6 +18,9 @@ use std::io;
 /// An answer of more values is refused.
 const MOST_VALUES: usize = 100_000;
 
+/// The most bytes of the name of a file.
+const LONGEST_NAME: usize = 64;
+
 /// Puts a schema file and a document file.
 fn put_both(
     alloc: Global,
@@ -31,14 +34,29 @@ fn put_both(
         .put(document.0, Shared::new(alloc, document.1)?)
 }
 
+/// The name of a file. Without memory, and of a text that is no name, it is a fault.
+fn file_name(alloc: Global, text: &str) -> Result<FileName, SyntaxFault> {
+    match FileName::read(alloc, text, LONGEST_NAME) {
+        Ok(Some(name)) => Ok(name),
+        _ => Err(SyntaxFault::Memory),
+    }
+}
+
+/// The same name, which shares its text.
+fn copy_of(name: &FileName) -> Result<FileName, SyntaxFault> {
+    match name.copy() {
+        Ok(copy) => Ok(copy),
+        Err(_) => Err(SyntaxFault::Memory),
+    }
+}
+
 /// The files of a schema and of a document.
 fn files_of(alloc: Global, schema: &str, document: &str) -> Result<Files, SyntaxFault> {
     let mut files = Files::new(alloc);
-    let (Some(name), Some(client)) = (FileName::read("schema"), FileName::read("client")) else {
-        return Ok(files);
-    };
-    let schema = parse_sdl(alloc, name.copy(), schema)?;
-    let document = parse_any(alloc, client.copy(), document)?;
+    let name = file_name(alloc, "schema")?;
+    let client = file_name(alloc, "client")?;
+    let schema = parse_sdl(alloc, copy_of(&name)?, schema)?;
+    let document = parse_any(alloc, copy_of(&client)?, document)?;
     match put_both(alloc, &mut files, (name, schema), (client, document)) {
         Ok(()) => Ok(files),
         Err(_) => Err(SyntaxFault::Memory),

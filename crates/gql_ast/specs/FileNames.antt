@@ -8,7 +8,7 @@ is_file_name_byte b =
     (nat_le 97 b && nat_le b 122) || (nat_le 65 b && nat_le b 90) || (nat_le 48 b && nat_le b 57)
     || (b == 95) || (b == 46) || (b == 45)
 
--- a file name: 1 to 64 of these bytes
-abbrev pub is_file_name : List ℕ → Bool
-is_file_name text =
-    nat_lt 0 (length text) && nat_le (length text) 64 && list_all is_file_name_byte text
+-- a file name where one has at most so many bytes: it has one byte or more, and only these bytes
+abbrev pub is_file_name : ℕ → List ℕ → Bool
+is_file_name most text =
+    nat_lt 0 (length text) && nat_le (length text) most && list_all is_file_name_byte text

@@ -11,6 +11,7 @@ whole_numbers = record {
     schema_file = 65536;
     document_file = 65536;
     files = 256;
+    name = 64;
     values = 100000;
     body = 262144;
   };
@@ -25,6 +26,7 @@ october_2021 = record {
     schema_file = 4194304;
     document_file = 65536;
     files = 10000;
+    name = 255;
     values = 1000000;
     body = 8388608;
   };

@@ -96,19 +96,19 @@ impl Definition {
         ensures { IfOk result (λ d. d ≡ self.now) }
     {
         Ok(Definition {
-            file: self.file.copy(),
+            file: self.file.copy()?,
             tree: self.tree.copy()?,
         })
     }
 
     /// What identifies the definition.
-    pub fn id(&self) -> DefinitionId
-        ensures { result ≡ id_of self.now }
+    pub fn id(&self) -> Result<DefinitionId, AllocError>
+        ensures { IfOk result (λ id. id ≡ id_of self.now) }
     {
-        DefinitionId {
-            file: self.file.copy(),
+        Ok(DefinitionId {
+            file: self.file.copy()?,
             offset: self.tree.place().offset,
-        }
+        })
     }
 }
 

@@ -26,14 +26,14 @@ pub struct FilePlace {
 
 impl FilePlace {
     /// An equal place.
-    pub fn copy(&self) -> FilePlace
-        ensures { result ≡ self.now }
+    pub fn copy(&self) -> Result<FilePlace, AllocError>
+        ensures { IfOk result (λ place. place ≡ self.now) }
     {
-        FilePlace {
+        Ok(FilePlace {
             side: self.side,
-            file: self.file.copy(),
+            file: self.file.copy()?,
             place: self.place,
-        }
+        })
     }
 }
 
@@ -58,12 +58,12 @@ impl Drop for Fault {
     }
 }
 
-fn copy_owner(owner: &Option<FilePlace>) -> Option<FilePlace>
-    ensures { result ≡ owner.now }
+fn copy_owner(owner: &Option<FilePlace>) -> Result<Option<FilePlace>, AllocError>
+    ensures { IfOk result (λ copy. copy ≡ owner.now) }
 {
     match owner {
-        Some(owner) => Some(owner.copy()),
-        None => None,
+        Some(owner) => Ok(Some(owner.copy()?)),
+        None => Ok(None),
     }
 }
 
@@ -72,7 +72,7 @@ fn copy_places(alloc: Global, places: &[FilePlace]) -> Result<Items<FilePlace>, 
 {
     let mut copies = Items::new(alloc);
     for place in places {
-        copies.push(place.copy())?;
+        copies.push(place.copy()?)?;
     }
     Ok(copies)
 }
@@ -86,7 +86,7 @@ impl Fault {
             rule: self.rule,
             about: self.about.copy()?,
             places: copy_places(alloc, self.places.as_slice())?,
-            owner: copy_owner(&self.owner),
+            owner: copy_owner(&self.owner)?,
         })
     }
 }

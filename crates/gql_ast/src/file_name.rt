@@ -1,22 +1,30 @@
 //! The names of files.
 
-ghost use Rattle.std.specs.Prelude.{◌≡◌, ◌↔◌, ◌&&◌, nat_lt, nat_le, length, IsTrue, IsSome, IfSome, Some, refl, bytes_eq};
+ghost use Rattle.std.specs.Prelude.{◌≡◌, ◌↔◌, ◌&&◌, nat_lt, nat_le, length, IsTrue, IsSome, IfOk, IfSome, Some, refl, bytes_eq};
 ghost use Rattle.std.specs.Ordering.{nat_cmp};
 ghost use Rattle.std.specs.List.{list_all};
 ghost use Rattle.std.specs.Cmp.{partial_equiv_from_equiv};
 ghost use Rattle.std.specs.Cmp.Lexicographic.{slice_cmp, nat_list_eq_equiv, nat_list_cmp_total, texts_ties, texts_po};
 ghost use Rattle.gql_ast.specs.FileNames.{is_file_name, is_file_name_byte};
 
-use arrayvec::ArrayString;
-use std::alloc::AllocError;
+use crate::shared::Shared;
+use crate::text::Text;
+use std::alloc::{AllocError, Global};
 use std::cmp::Ordering;
 use std::marker::Model;
 
-/// The name of a file: 1 to 64 letters, digits, `_`, `.` and `-`, held in place and ordered by
-/// bytes. Contracts see the list of its bytes.
-#[derive(Debug, Drop)]
+/// The name of a file: letters, digits, `_`, `.` and `-`, at least one of them, and at most as many
+/// as a profile takes. A copy shares the text, so that it costs no walk. Names are ordered by their
+/// bytes. Contracts see the list of the bytes.
+#[derive(Debug)]
 pub struct FileName {
-    text: ArrayString<64>,
+    text: Shared<Text>,
+}
+
+impl Drop for FileName {
+    fn drop(self) {
+        let FileName { text: _ } = self;
+    }
 }
 
 impl Model for FileName {
@@ -24,7 +32,7 @@ impl Model for FileName {
 
     ghost Value = { List ℕ };
 
-    ghost view = { λ n. n.text.bytes };
+    ghost view = { λ n. n.text };
 }
 
 fn is_name_byte(byte: u8) -> bool
@@ -33,10 +41,10 @@ fn is_name_byte(byte: u8) -> bool
     byte.is_ascii_alphanumeric() || byte == b'_' || byte == b'.' || byte == b'-'
 }
 
-fn has_name_length(text: &str) -> bool
-    ensures { result ≡ (nat_lt 0 (length text.now) && nat_le (length text.now) 64) }
+fn has_name_length(text: &str, most: usize) -> bool
+    ensures { result ≡ (nat_lt 0 (length text.now) && nat_le (length text.now) most) }
 {
-    !text.is_empty() && text.len() <= 64
+    !text.is_empty() && text.len() <= most
 }
 
 fn has_name_bytes(text: &str) -> bool
@@ -46,32 +54,34 @@ fn has_name_bytes(text: &str) -> bool
 }
 
 impl FileName {
-    /// The file name of this text, if the text is one.
-    pub fn read(text: &str) -> Option<FileName>
-        ensures name { IfSome result (λ n. n ≡ text.now) }
-        ensures exact { IsSome result ↔ IsTrue (is_file_name text.now) }
+    /// The file name of this text, if the text is one where a name has at most so many bytes.
+    pub fn read(alloc: Global, text: &str, most: usize) -> Result<Option<FileName>, AllocError>
+        ensures name { IfOk result (λ name. IfSome name (λ n. n ≡ text.now)) }
+        ensures exact { IfOk result (λ name. IsSome name ↔ IsTrue (is_file_name most text.now)) }
     {
-        if !has_name_length(text) || !has_name_bytes(text) {
-            return None;
+        if !has_name_length(text, most) || !has_name_bytes(text) {
+            return Ok(None);
         }
-        match ArrayString::try_from(text) {
-            Ok(text) => Some(FileName { text }),
-            Err(_) => None,
-        }
+        let text = Text::from_str(alloc, text)?;
+        Ok(Some(FileName {
+            text: Shared::new(alloc, text)?,
+        }))
     }
 
     /// The name's text.
     pub fn as_str(&self) -> &str
         ensures { result.now ≡ self.now }
     {
-        self.text.as_str()
+        self.text.get().as_str()
     }
 
-    /// An equal name.
-    pub fn copy(&self) -> FileName
-        ensures { result ≡ self.now }
+    /// An equal name, which shares the text.
+    pub fn copy(&self) -> Result<FileName, AllocError>
+        ensures { IfOk result (λ n. n ≡ self.now) }
     {
-        FileName { text: self.text }
+        Ok(FileName {
+            text: self.text.clone()?,
+        })
     }
 }
 
@@ -79,7 +89,7 @@ impl Clone for FileName {
     ghost is_clone = { λ name copy. copy ≡ name };
 
     fn clone(&self) -> Result<FileName, AllocError> {
-        Ok(self.copy())
+        self.copy()
     }
 }
 

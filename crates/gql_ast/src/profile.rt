@@ -12,6 +12,8 @@ pub struct Limits {
     pub document_file: usize,
     /// How many schema files, and how many document files, there may be (205).
     pub files: usize,
+    /// The greatest number of bytes of a file name.
+    pub name: usize,
     /// The greatest weight of an answer, in values (210).
     pub values: usize,
     /// The greatest number of bytes of a request's body (303).
@@ -41,6 +43,7 @@ impl Profile {
                 schema_file: 65_536,
                 document_file: 65_536,
                 files: 256,
+                name: 64,
                 values: 100_000,
                 body: 262_144,
             },
@@ -59,6 +62,7 @@ impl Profile {
                 schema_file: 4_194_304,
                 document_file: 65_536,
                 files: 10_000,
+                name: 255,
                 values: 1_000_000,
                 body: 8_388_608,
             },

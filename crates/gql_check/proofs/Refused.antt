@@ -32,11 +32,11 @@ none_if (x ∷ xs) e = absurd (no_zero (length xs) e)
     no_zero n is = grind (arith, nat_tests)
 
 -- no file of a registry is among those given
-pub is_empty : (p : Profile) (given : List GivenFile) (f : Folder) → IsFolder p.limits.files (paths_of given) (length given) f → (length (folder_indices f) == 0) ≡ true → IsFault p given Empty
+pub is_empty : (p : Profile) (given : List GivenFile) (f : Folder) → IsFolder p.limits (paths_of given) (length given) f → (length (folder_indices f) == 0) ≡ true → IsFault p given Empty
 is_empty p given f h none = empty f h (none_if (folder_indices f) none)
 
 -- the fault of a folder is that of a check
-pub folder_refused : {T : Type 0} (p : Profile) (given : List GivenFile) (r : Result T CheckFault) (e : FolderFault) → IsErrAnd r (λ c. c ≡ of_folder e) → IsFolderFault p.limits.files (paths_of given) e → IfErr r (IsFault p given)
+pub folder_refused : {T : Type 0} (p : Profile) (given : List GivenFile) (r : Result T CheckFault) (e : FolderFault) → IsErrAnd r (λ c. c ≡ of_folder e) → IsFolderFault p.limits (paths_of given) e → IfErr r (IsFault p given)
 folder_refused p given (Ok v) e is h = absurd is
 folder_refused p given (Err c) e is h = bad_folder e h is
 

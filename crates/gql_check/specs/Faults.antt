@@ -80,10 +80,10 @@ of_folder folder.Memory = Memory
 -- Why these files are not checked by this profile.
 pub data IsFault (p : Profile) (given : List GivenFile) : CheckFault → Type 0 where
   -- none of them is a file of a registry
-  empty : (f : Folder) → IsFolder p.limits.files (paths_of given) (length given) f → folder_indices f ≡ []
+  empty : (f : Folder) → IsFolder p.limits (paths_of given) (length given) f → folder_indices f ≡ []
       → IsFault p given Empty
   -- their paths are not those of the files of a registry
-  bad_folder : {c : CheckFault} (e : FolderFault) → IsFolderFault p.limits.files (paths_of given) e
+  bad_folder : {c : CheckFault} (e : FolderFault) → IsFolderFault p.limits (paths_of given) e
       → c ≡ of_folder e → IsFault p given c
   -- files are refused
   refused : {c : CheckFault} (f : Folder) → IsFolderOf p given f → IsRefusal p given f c

@@ -48,7 +48,7 @@ folder_indices f =
 
 -- these are the files of a registry of this profile among those given, and there is at least one
 pub record IsFolderOf (p : Profile) (given : List GivenFile) (f : Folder) : Type 0 where
-  pub names : IsFolder p.limits.files (paths_of given) (length given) f
+  pub names : IsFolder p.limits (paths_of given) (length given) f
   pub some : folder_indices f ≢ []
 
 -- the state that putting the files of a folder one by one into a new registry of this profile leaves

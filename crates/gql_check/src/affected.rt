@@ -30,10 +30,11 @@ fn owns_fault(owners: &Owners, fragment: &FragmentFact) -> Result<bool, AllocErr
     ensures { IfOk result (λ is. is ≡ owns owners.now (definition_of fragment.now)) }
 {
     let definition = Definition {
-        file: fragment.file.copy(),
+        file: fragment.file.copy()?,
         tree: Tree::Fragment(fragment.fragment.clone()?),
     };
-    Ok(owners.has(&definition))
+    let has = owners.has(&definition)?;
+    Ok(has)
 }
 
 /// The first of these fragments that owns a fault, if a definition owns none.
@@ -59,7 +60,8 @@ fn find_against<W: World>(
     ensures against { IfOk result
         (IsAgainst (W.facts world.old) (owns owners.now) definition.now) }
 {
-    if owners.has(definition) {
+    let has = owners.has(definition)?;
+    if has {
         return Ok(Against::Own);
     }
     let walk = walk_reads(alloc, world, definition)?;
@@ -108,7 +110,8 @@ fn add_affected<W: World>(
         return Ok(());
     };
     let against = find_against(alloc, world, owners, definition)?;
-    let spot = places.spot(&start_of(definition));
+    let start = start_of(definition)?;
+    let spot = places.spot(&start);
     add_against(operation.get(), spot, against, affected)
 }
 

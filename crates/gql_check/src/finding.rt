@@ -116,9 +116,10 @@ fn owner_at(
     let Some(definition) = find_at(definitions, place) else {
         return Ok(None);
     };
+    let start = start_of(definition)?;
     Ok(Some(OwnerAt {
         owner: owner_of(&definition.tree)?,
-        spot: places.spot(&start_of(definition)),
+        spot: places.spot(&start),
     }))
 }
 

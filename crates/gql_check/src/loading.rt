@@ -57,7 +57,7 @@ fn add_side<'g>(
     for file in named {
         puts.puts.push(GivenPut::File {
             side,
-            name: file.name.copy(),
+            name: file.name.copy()?,
             bytes: bytes_at(given, file.at),
         })?;
         puts.indices.push(file.at)?;
@@ -120,7 +120,7 @@ pub fn folder_of(alloc: Global, profile: Profile, given: &[GivenFile]) -> Result
     ensures folder { IfOk result (IsFolderOf profile given.now) }
     ensures err { IfErr result (IsFault profile given.now) }
 {
-    let folder = read_folder(alloc, given, profile.limits.files)?;
+    let folder = read_folder(alloc, given, profile.limits)?;
     if is_empty(&folder) {
         return Err(CheckFault::Empty);
     }

@@ -49,10 +49,11 @@ fn add_operation(
 {
     if let Tree::Operation(operation) = &definition.tree {
         let operation = operation.get();
+        let start = start_of(definition)?;
         operations.push(OperationAt {
             kind: operation.kind,
             name: name_of(operation)?,
-            spot: places.spot(&start_of(definition)),
+            spot: places.spot(&start),
         })?;
     }
     Ok(())

@@ -21,7 +21,7 @@ fn add_owner(marks: &mut BTreeSet<(FileName, usize)>, fault: &Fault) -> Result<(
         ≡ cond (is_owned_by d fault.now) true (is_marked marks.old d)) }
 {
     if let Some(owner) = &fault.owner {
-        marks.insert((owner.file.copy(), owner.place.offset))?;
+        marks.insert((owner.file.copy()?, owner.place.offset))?;
     }
     Ok(())
 }
@@ -49,10 +49,10 @@ impl Owners {
     }
 
     /// Whether a definition is one of them.
-    pub fn has(&self, definition: &Definition) -> bool
-        ensures { result ≡ owns self.now definition.now }
+    pub fn has(&self, definition: &Definition) -> Result<bool, AllocError>
+        ensures { IfOk result (λ has. has ≡ owns self.now definition.now) }
     {
-        let mark = (definition.file.copy(), definition.tree.place().offset);
-        self.marks.contains(&mark)
+        let mark = (definition.file.copy()?, definition.tree.place().offset);
+        Ok(self.marks.contains(&mark))
     }
 }

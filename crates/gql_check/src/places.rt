@@ -42,20 +42,20 @@ fn by_name(alloc: Global, named: &[NamedFile]) -> Result<BTreeMap<FileName, usiz
 {
     let mut indices = BTreeMap::new(alloc);
     for file in named {
-        indices.insert(file.name.copy(), file.at)?;
+        indices.insert(file.name.copy()?, file.at)?;
     }
     Ok(indices)
 }
 
 /// The place where a definition of a document starts.
-pub fn start_of(definition: &Definition) -> FilePlace
-    ensures { result ≡ spec.start_of definition.now }
+pub fn start_of(definition: &Definition) -> Result<FilePlace, AllocError>
+    ensures { IfOk result (λ start. start ≡ spec.start_of definition.now) }
 {
-    FilePlace {
+    Ok(FilePlace {
         side: FileSide::Documents,
-        file: definition.file.copy(),
+        file: definition.file.copy()?,
         place: definition.tree.place(),
-    }
+    })
 }
 
 impl Places {

@@ -123,8 +123,9 @@ pub fn refusal_text(
         }
         CheckFault::Misnamed { at } => {
             let path = path_at(files, *at);
+            let most = profile.limits.name;
             format!(in alloc;
-                "{folder}/{path} has a name that is not accepted: 1 to 64 letters, digits, `_`, `.` and `-`"
+                "{folder}/{path} has a name that is not accepted: 1 to {most} letters, digits, `_`, `.` and `-`"
             )
         }
         CheckFault::Refused(faults) => all_refused_text(alloc, folder, files, faults.as_slice()),

@@ -1,7 +1,7 @@
 -- The first item that is looked for, in chunks of a list in order.
-use Rattle.std.proofs.Common.{◌≡◌, ◌≢◌, ◌⊎◌, inl, inr, ℕ, zero, suc, ◌-◌, ◌≤◌, ◌<◌, List, [], ◌∷◌, ◌++◌, Bool, true, false, cond, not, get_or, refl, ap, sym, subst, ◌∙◌, Contains, Option, Some, None, length, arith}
-use Rattle.std.specs.List.{AllPairs, AllWithin, find, slice_get}
-use Rattle.std.specs.List.Sorted.{IsNonDecreasingBy, IsPartitionPoint, IsPartitionedBy}
+use Rattle.std.proofs.Common.{◌≡◌, ◌≢◌, inl, inr, ℕ, zero, suc, ◌-◌, ◌≤◌, List, [], ◌∷◌, Bool, true, false, cond, not, get_or, refl, ap, sym, subst, ◌∙◌, Contains, Option, Some, None, length, arith}
+use Rattle.std.specs.List.{AllPairs, find, slice_get}
+use Rattle.std.specs.List.Sorted.{IsPartitionPoint, IsPartitionedBy}
 use Rattle.std.specs.Option.{option_or}
 use Rattle.std.specs.Ordering.{is_eq, is_lt, ordering_index}
 use Rattle.std.specs.declared.cmp.Ordering.{Ordering}
@@ -10,7 +10,7 @@ use Rattle.std.proofs.lemmas.List.Elements.{All-head, All-tail, Contains-append_
 use Rattle.std.proofs.lemmas.List.Folds.{find-append}
 use Rattle.std.proofs.lemmas.List.Kept.{AllPairs-cons}
 use Rattle.gql_chunks.specs.Cuts.{ends_below, if_equal}
-use Rattle.gql_chunks.specs.Lists.{AreFull, AreInOrder, IsChunked, joined}
+use Rattle.gql_chunks.specs.Lists.{AreInOrder, IsChunked, joined}
 use Rattle.gql_chunks.proofs.Members.{contains_cases, contains_here, contains_none, contains_there, pairs_across, pairs_first, pairs_head, pairs_none, pairs_second, pairs_tail, same_or_less}
 use Rattle.gql_chunks.proofs.Splitting.{searchable}
 

@@ -19,7 +19,7 @@ fn add_left(
 {
     if let Some(tree) = tree_left(alloc, subject, &definition.tree)? {
         left.push(Definition {
-            file: definition.file.copy(),
+            file: definition.file.copy()?,
             tree,
         })?;
     }

@@ -60,7 +60,7 @@ fn read_file(
     bytes: u64,
     files: &mut Vec<GivenFile>,
 ) -> Result<(), DiskFault> {
-    let role = role_of(path.as_str());
+    let role = role_of(rt.alloc(), path.as_str(), limits.name)?;
     if matches!(&role, Role::Other) {
         return Ok(());
     }

@@ -128,7 +128,7 @@ impl FragmentFact {
         ensures { IfOk result (λ f. f ≡ self.now) }
     {
         Ok(FragmentFact {
-            file: self.file.copy(),
+            file: self.file.copy()?,
             fragment: self.fragment.clone()?,
         })
     }

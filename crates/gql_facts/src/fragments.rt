@@ -35,7 +35,7 @@ fn add_fragment(definition: &Definition, found: &mut Vec<FragmentFact>) -> Resul
 {
     if let Tree::Fragment(fragment) = &definition.tree {
         found.push(FragmentFact {
-            file: definition.file.copy(),
+            file: definition.file.copy()?,
             fragment: fragment.clone()?,
         })?;
     }

@@ -9,14 +9,14 @@ use gql_text::Place;
 use std::alloc::{AllocError, Global};
 
 /// A place of a schema file.
-fn in_file(file: &FileName, place: Place) -> FilePlace
-    ensures { result ≡ spec.in_file file.now place }
+fn in_file(file: &FileName, place: Place) -> Result<FilePlace, AllocError>
+    ensures { IfOk result (λ at. at ≡ spec.in_file file.now place) }
 {
-    FilePlace {
+    Ok(FilePlace {
         side: FileSide::Schema,
-        file: file.copy(),
+        file: file.copy()?,
         place,
-    }
+    })
 }
 
 /// A fault of the schema, which has no owner.
@@ -41,7 +41,7 @@ fn one_place(alloc: Global, file: &FileName, place: Place) -> Result<Items<FileP
     ensures { IfOk result (λ places. places ≡ spec.in_file file.now place ∷ []) }
 {
     let mut places = Items::new(alloc);
-    places.push(in_file(file, place))?;
+    places.push(in_file(file, place)?)?;
     Ok(places)
 }
 
@@ -76,8 +76,8 @@ fn two_places(
         ≡ spec.in_file file.now place ∷ spec.in_file second_file.now second ∷ []) }
 {
     let mut places = Items::new(alloc);
-    places.push(in_file(file, place))?;
-    places.push(in_file(second_file, second))?;
+    places.push(in_file(file, place)?)?;
+    places.push(in_file(second_file, second)?)?;
     Ok(places)
 }
 

@@ -4,7 +4,7 @@ ghost use Rattle.gql_folder.specs.Adding.{IsAddFault, IsFound, IsFresh};
 ghost use Rattle.gql_folder.specs.Folders.{IsFolder, IsFolderFault, paths_of};
 
 use crate::role::{Role, role_of};
-use gql_ast::{FileName, FileSide};
+use gql_ast::{FileName, FileSide, Limits};
 use std::alloc::{AllocError, AllocFailed, Global};
 use thiserror::Error;
 
@@ -106,14 +106,23 @@ fn add_named(
 }
 
 impl Folder {
-    /// Adds the file at a path, where there may be so many of a side.
-    fn add(&mut self, most: usize, path: &str, at: usize) -> Result<(), FolderFault>
+    /// Adds the file at a path, within these limits.
+    fn add(
+        &mut self,
+        alloc: Global,
+        limits: Limits,
+        path: &str,
+        at: usize,
+    ) -> Result<(), FolderFault>
         ensures ok { (paths : List (List ℕ)) → slice_get paths at ≡ Some path.now
-            → IsFolder most paths at self.old → OnOk result (IsFolder most paths (at + 1) self.new) }
+            → IsFolder limits paths at self.old
+            → OnOk result (IsFolder limits paths (at + 1) self.new) }
         ensures err { (paths : List (List ℕ)) → slice_get paths at ≡ Some path.now
-            → IsFolder most paths at self.old → IfErr result (IsFolderFault most paths) }
+            → IsFolder limits paths at self.old → IfErr result (IsFolderFault limits paths) }
     {
-        match role_of(path) {
+        let most = limits.files;
+        let role = role_of(alloc, path, limits.name)?;
+        match role {
             Role::File(FileSide::Schema, name) => {
                 add_named(most, &mut self.schema, FileSide::Schema, name, at)
             }
@@ -130,11 +139,15 @@ impl Folder {
     }
 }
 
-/// The files of a folder by their names, or why they are not the files of a registry that takes so
-/// many of a side.
-pub fn read_folder(alloc: Global, files: &[GivenFile], most: usize) -> Result<Folder, FolderFault>
-    ensures folder { IfOk result (IsFolder most (paths_of files.now) (length files.now)) }
-    ensures err { IfErr result (IsFolderFault most (paths_of files.now)) }
+/// The files of a folder by their names, or why they are not the files of a registry with these
+/// limits.
+pub fn read_folder(
+    alloc: Global,
+    files: &[GivenFile],
+    limits: Limits,
+) -> Result<Folder, FolderFault>
+    ensures folder { IfOk result (IsFolder limits (paths_of files.now) (length files.now)) }
+    ensures err { IfErr result (IsFolderFault limits (paths_of files.now)) }
 {
     let mut folder = Folder {
         schema: Vec::new(alloc),
@@ -142,7 +155,7 @@ pub fn read_folder(alloc: Global, files: &[GivenFile], most: usize) -> Result<Fo
         data: None,
     };
     for (at, file) in files.iter().enumerate() {
-        folder.add(most, file.path.as_str(), at)?;
+        folder.add(alloc, limits, file.path.as_str(), at)?;
     }
     Ok(folder)
 }

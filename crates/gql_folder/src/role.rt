@@ -1,10 +1,10 @@
 //! What a file of a folder is, by its path.
-ghost use Rattle.std.specs.Prelude.{◌≡◌, Some, None, if◌then◌else◌};
+ghost use Rattle.std.specs.Prelude.{◌≡◌, IfOk, Some, None, if◌then◌else◌};
 ghost use Rattle.gql_ast.specs.FileNames.{is_file_name};
 ghost use Rattle.gql_folder.specs.Roles.{file_at, name_at, role_at, role_below, role_in};
 
-use arrayvec::ArrayString;
 use gql_ast::{FileName, FileSide};
+use std::alloc::{AllocError, Global};
 
 /// The folder of the schema files.
 const SCHEMA: &[u8] = b"schema/";
@@ -26,75 +26,81 @@ pub enum Role {
     File(FileSide, FileName),
     /// The data that operations are executed on.
     Data,
-    /// A file whose path gives no name: names have 1 to 64 letters, digits, `_`, `.` and `-`.
+    /// A file whose path gives no name: names have letters, digits, `_`, `.` and `-`, at least one
+    /// of them and at most as many as the profile takes.
     Misnamed,
     /// No file of the registry.
     Other,
 }
 
-/// The name of the file at a path that has no extension, with a dot for each slash.
-fn name_of(stem: &[u8]) -> Option<FileName>
-    ensures { result ≡ (if is_file_name (name_at stem.now) then Some (name_at stem.now) else None) }
+/// The name of the file at a path that has no extension, with a dot for each slash. It has at most
+/// so many bytes.
+fn name_of(alloc: Global, stem: &[u8], most: usize) -> Result<Option<FileName>, AllocError>
+    ensures { IfOk result (λ name. name
+        ≡ (if is_file_name most (name_at stem.now) then Some (name_at stem.now) else None)) }
 {
-    let mut name = ArrayString::<64>::new();
+    if stem.len() > most {
+        return Ok(None);
+    }
+    let mut name = String::with_capacity(alloc, stem.len())?;
     for byte in stem {
         if *byte >= 128 {
-            return None;
+            return Ok(None);
         }
         let byte = if *byte == b'/' { b'.' } else { *byte };
-        if name.try_push(char::from(byte)).is_err() {
-            return None;
-        }
+        name.push(char::from(byte))?;
     }
-    FileName::read(name.as_str())
+    let found = FileName::read(alloc, name.as_str(), most)?;
+    Ok(found)
 }
 
 /// The file of a side at a path that has no extension.
-fn file_of(side: FileSide, stem: &[u8]) -> Role
-    ensures { result ≡ file_at side stem.now }
+fn file_of(alloc: Global, side: FileSide, stem: &[u8], most: usize) -> Result<Role, AllocError>
+    ensures { IfOk result (λ role. role ≡ file_at most side stem.now) }
 {
-    match name_of(stem) {
-        Some(name) => Role::File(side, name),
-        None => Role::Misnamed,
+    match name_of(alloc, stem, most)? {
+        Some(name) => Ok(Role::File(side, name)),
+        None => Ok(Role::Misnamed),
     }
 }
 
 /// What the file at a path below the folder of a side is.
-fn role_below(side: FileSide, path: &[u8]) -> Role
-    ensures { result ≡ role_below side path.now }
+fn role_below(alloc: Global, side: FileSide, path: &[u8], most: usize) -> Result<Role, AllocError>
+    ensures { IfOk result (λ role. role ≡ role_below most side path.now) }
 {
     if path.ends_with(GRAPHQL) {
-        file_of(side, &path[..path.len() - GRAPHQL.len()])
+        file_of(alloc, side, &path[..path.len() - GRAPHQL.len()], most)
     } else if path.ends_with(GRAPHQLS) {
-        file_of(side, &path[..path.len() - GRAPHQLS.len()])
+        file_of(alloc, side, &path[..path.len() - GRAPHQLS.len()], most)
     } else if path.ends_with(GQL) {
-        file_of(side, &path[..path.len() - GQL.len()])
+        file_of(alloc, side, &path[..path.len() - GQL.len()], most)
     } else {
-        Role::Other
+        Ok(Role::Other)
     }
 }
 
 /// What the file at a path is, if it is not the data.
-fn role_in(path: &[u8]) -> Role
-    ensures { result ≡ role_in path.now }
+fn role_in(alloc: Global, path: &[u8], most: usize) -> Result<Role, AllocError>
+    ensures { IfOk result (λ role. role ≡ role_in most path.now) }
 {
     if path.starts_with(SCHEMA) {
-        role_below(FileSide::Schema, &path[SCHEMA.len()..])
+        role_below(alloc, FileSide::Schema, &path[SCHEMA.len()..], most)
     } else if path.starts_with(DOCUMENTS) {
-        role_below(FileSide::Documents, &path[DOCUMENTS.len()..])
+        role_below(alloc, FileSide::Documents, &path[DOCUMENTS.len()..], most)
     } else {
-        Role::Other
+        Ok(Role::Other)
     }
 }
 
-/// What the file at a path below a folder is. The parts of the path are separated by `/`.
-pub fn role_of(path: &str) -> Role
-    ensures { result ≡ role_at path.now }
+/// What the file at a path below a folder is, where a name has at most so many bytes. The parts of
+/// the path are separated by `/`.
+pub fn role_of(alloc: Global, path: &str, most: usize) -> Result<Role, AllocError>
+    ensures { IfOk result (λ role. role ≡ role_at most path.now) }
 {
     let path = path.as_bytes();
     if path == b"data.json".as_slice() {
-        Role::Data
+        Ok(Role::Data)
     } else {
-        role_in(path)
+        role_in(alloc, path, most)
     }
 }

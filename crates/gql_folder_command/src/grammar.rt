@@ -12,8 +12,9 @@ DIR has the files of a team:
   DIR/schema/       schema files: .graphql, .graphqls or .gql
   DIR/documents/    operations and fragments of clients
   DIR/data.json     the data that operations are run on, if there is one
-Folders may be in these folders: documents/web/home.graphql is the file web.home. Names have 1 to 64
-letters, digits, `_`, `.` and `-`; those that begin with a dot are left out.
+Folders may be in these folders: documents/web/home.graphql is the file web.home. Names have 1 to 255
+letters, digits, `_`, `.` and `-` (64 in the profile whole-numbers); those that begin with a dot are
+left out.
 
 A manifest of persisted operations is Apollo's, or Relay's map of texts. Each operation of it is a
 document of its own, and the fragments are in another. With --base its operations are those of both

@@ -54,7 +54,7 @@ pub fn given_files(
     }
     let made = made_of(rt, manifests)?;
     let text = made_text(rt.alloc(), &made)?;
-    match add_files(rt.alloc(), folder, made.files, &mut files) {
+    match add_files(rt.alloc(), folder, made.files, &mut files, limits.name) {
         Ok(()) => Ok(Given {
             files,
             made: Some(text),

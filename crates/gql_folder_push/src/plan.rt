@@ -29,7 +29,8 @@ pub fn planned(
         Some(last) => last.pushed,
         None => Vec::new(rt.alloc()),
     };
-    let resources = resources_of(rt.alloc(), files.as_slice())?;
+    let most = options.profile.limits.name;
+    let resources = resources_of(rt.alloc(), files.as_slice(), most)?;
     let edits = plan(rt.alloc(), resources.as_slice(), before.as_slice(), all)?;
     Ok(PushPlan {
         files,

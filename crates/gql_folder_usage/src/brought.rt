@@ -24,7 +24,7 @@ fn schema_left(
     for (name, document) in files.entries().iter() {
         let document = document_left(alloc, subject, document.get())?;
         let document = Shared::new(alloc, document)?;
-        left.put(name.copy(), document)?;
+        left.put(name.copy()?, document)?;
     }
     Ok(left)
 }

@@ -5,7 +5,7 @@ ghost use Rattle.gql_registry.specs.Report.{IsSound};
 ghost use Rattle.gql_registry.specs.State.{state_of};
 
 use crate::fault::UsageFault;
-use gql_ast::{Files, Profile};
+use gql_ast::{Files, Limits, Profile};
 use gql_check::{CheckFault, load_files};
 use gql_folder::{GivenFile, read_folder};
 use gql_registry::Registry;
@@ -34,14 +34,14 @@ fn test_schema(registry: &Registry) -> Result<(), UsageFault>
     Err(UsageFault::FaultySchema { faults })
 }
 
-/// The paths of these files of a folder, where there may be so many of a side.
+/// The paths of these files of a folder, within these limits.
 fn paths_in(
     alloc: Global,
     folder: &str,
     given: &[GivenFile],
-    most: usize,
+    limits: Limits,
 ) -> Result<Paths, UsageFault> {
-    match read_folder(alloc, given, most) {
+    match read_folder(alloc, given, limits) {
         Ok(named) => Ok(Paths::new(alloc, folder, &named, given)?),
         Err(fault) => Err(UsageFault::from(CheckFault::from(fault))),
     }
@@ -60,7 +60,7 @@ pub fn load_folder(
     test_schema(&registry)?;
     let schema = assemble(alloc, registry.files())?;
     let stored = Stored::new(alloc, &schema, registry.files())?;
-    let paths = paths_in(alloc, folder, given, profile.limits.files)?;
+    let paths = paths_in(alloc, folder, given, profile.limits)?;
     Ok(Loaded {
         registry,
         schema,

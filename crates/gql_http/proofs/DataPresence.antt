@@ -1,6 +1,7 @@
 -- Data then present: what requests leave as the data, and what a request to run is answered.
 use Rattle.std.proofs.Common.{◌≡◌, ℕ, List, [], ◌∷◌, ◌++◌, Bool, Option, Some, None, Result, Ok, Err, refl, sym, ap, ◌∙◌, subst}
 use Rattle.gql_ast.specs.declared.fault.FileSide.{FileSide}
+use Rattle.gql_ast.specs.declared.profile.Profile.{Profile}
 use Rattle.gql_registry.specs.DataBodies.{IsDataText}
 use Rattle.gql_registry.specs.Edits as edit
 use Rattle.gql_registry.specs.Edits.{Edit, Fails, Makes}
@@ -16,10 +17,12 @@ use Rattle.gql_wire.specs.Stream.{Req, request, refused as refused_head}
 use Rattle.gql_http.specs.Answers.{Said, answer_bytes, edit_said}
 use Rattle.gql_http.specs.History.{AsksFor, asks_to_put, asks_to_remove, asks_to_put_data, ChangesData, puts_data, is_run, IsAcceptedEdit, RunsWith, runs_with, DataAfter, no_more_requests, by_data, by_run, by_none}
 use Rattle.gql_http.specs.Laws.{CallThen, DataInOrder, DataPresent, InOrder}
+use Rattle.gql_http.specs.Limits.{name_limit_in}
 use Rattle.gql_http.specs.Routes.{Call, report, put, remove, put_data, refused, call_of}
 use Rattle.gql_http.specs.Routes as routes
 use Rattle.gql_http.specs.Service.{Step, Calls, Run, Runs, done, more}
 use Rattle.gql_http.proofs.Determined.{said_made}
+use Rattle.gql_http.proofs.KeptLimit.{run_keeps}
 use Rattle.gql_http.proofs.Presence.{data_refused, Split, split_run}
 
 -- what a request does to the data
@@ -29,29 +32,29 @@ data Deed (s t : State) (r : Req) : Type 0 where
   keeps : (ChangesData s r → ⊥) → t.stored ≡ s.stored → Deed s t r
 
 -- a request that puts no data
-no_data : (s : State) (method target body : List ℕ) (closing : Bool) (call : Call) → call_of method target ≡ call
+no_data : (s : State) (method target body : List ℕ) (closing : Bool) (call : Call) → call_of (name_limit_in s) method target ≡ call
     → ((expected : Option ℕ) → call ≡ put_data expected → ⊥)
     → (given : List ℕ) → IsAcceptedEdit s (request method target body closing) (edit.put_data given) → ⊥
 no_data s method target body closing call is none given h = by (edit.put_data given) h.expected h.asks refl
   where
-    by : (e : Edit) (expected : Option ℕ) → AsksFor (request method target body closing) expected e → e ≡ edit.put_data given → ⊥
+    by : (e : Edit) (expected : Option ℕ) → AsksFor (name_limit_in s) (request method target body closing) expected e → e ≡ edit.put_data given → ⊥
     by _ expected (asks_to_put {side = side} {name = name} asks) same = cc
     by _ expected (asks_to_remove {side = side} {name = name} asks) same = cc
     by _ expected (asks_to_put_data asks) same = none expected (sym is ∙ asks)
 
 -- a request that is no run
-no_run : (s : State) (method target body : List ℕ) (closing : Bool) (call : Call) → call_of method target ≡ call → (call ≡ routes.run → ⊥)
+no_run : (s : State) (method target body : List ℕ) (closing : Bool) (call : Call) → call_of (name_limit_in s) method target ≡ call → (call ≡ routes.run → ⊥)
     → (effects : List Effect) → RunsWith s (request method target body closing) effects → ⊥
 no_run s method target body closing call is other effects (runs_with asks h) = other (sym is ∙ asks)
 
 -- a request that is neither
-no_change : (s : State) (method target body : List ℕ) (closing : Bool) (call : Call) → call_of method target ≡ call
+no_change : (s : State) (method target body : List ℕ) (closing : Bool) (call : Call) → call_of (name_limit_in s) method target ≡ call
     → ((expected : Option ℕ) → call ≡ put_data expected → ⊥) → (call ≡ routes.run → ⊥) → ChangesData s (request method target body closing) → ⊥
 no_change s method target body closing call is none other (puts_data {body = given} h) = no_data s method target body closing call is none given h
 no_change s method target body closing call is none other (is_run {effects = effects} h) = no_run s method target body closing call is other effects h
 
 put_deed : (s t : State) (side : FileSide) (method target body name : List ℕ) (closing : Bool) (expected : Option ℕ) (a : Said) (r : Result Edited Refusal)
-    → call_of method target ≡ put side name expected
+    → call_of (name_limit_in s) method target ≡ put side name expected
     → edit_said r ≡ Some a → Makes s expected (edit.put side name body) r t → Deed s t (request method target body closing)
 put_deed s t side method target body name closing expected a (Ok edited) is said h =
     keeps (no_change s method target body closing (put side name expected) is (λ wanted clash. cc) (λ clash. cc)) (ap (λ (x : State). x.stored) h.1.2)
@@ -60,7 +63,7 @@ put_deed s t side method target body name closing expected a (Err q) is said h =
     (ap (λ (x : State). x.stored) (first_refusal s t expected (edit.put side name body) q (said_made (Err q) a said) h).1)
 
 removal_deed : (s t : State) (side : FileSide) (method target body name : List ℕ) (closing : Bool) (expected : Option ℕ) (a : Said) (r : Result Edited Refusal)
-    → call_of method target ≡ remove side name expected
+    → call_of (name_limit_in s) method target ≡ remove side name expected
     → edit_said r ≡ Some a → Makes s expected (edit.remove side name) r t → Deed s t (request method target body closing)
 removal_deed s t side method target body name closing expected a (Ok edited) is said h =
     keeps (no_change s method target body closing (remove side name expected) is (λ wanted clash. cc) (λ clash. cc)) (ap (λ (x : State). x.stored) h.1)
@@ -69,7 +72,7 @@ removal_deed s t side method target body name closing expected a (Err q) is said
     (ap (λ (x : State). x.stored) (first_refusal s t expected (edit.remove side name) q (said_made (Err q) a said) h).1)
 
 data_deed : (s t : State) (method target body : List ℕ) (closing : Bool) (expected : Option ℕ) (a : Said) (r : Result Edited Refusal)
-    → call_of method target ≡ put_data expected
+    → call_of (name_limit_in s) method target ≡ put_data expected
     → edit_said r ≡ Some a → Makes s expected (edit.put_data body) r t → Deed s t (request method target body closing)
 data_deed s t method target body closing expected a (Ok edited) is said h =
     puts body (record { expected = expected; asks = asks_to_put_data is; accepted = h.0 })
@@ -82,7 +85,7 @@ data_deed s t method target body closing expected a (Err q) is said h =
     none fails (puts_data {body = given} accepted) = data_refused s method target body closing expected q is fails (edit.put_data given) accepted
     none fails (is_run {effects = effects} h) = no_run s method target body closing (put_data expected) is (λ clash. cc) effects h
 
-call_deed : (s t : State) (method target body : List ℕ) (closing : Bool) (call : Call) (a : Said) → call_of method target ≡ call → Calls s call body a t
+call_deed : (s t : State) (method target body : List ℕ) (closing : Bool) (call : Call) (a : Said) → call_of (name_limit_in s) method target ≡ call → Calls s call body a t
     → Deed s t (request method target body closing)
 call_deed s t method target body closing report a is h =
     keeps (no_change s method target body closing report is (λ expected clash. cc) (λ clash. cc)) (ap (λ (x : State). x.stored) h.1)
@@ -95,10 +98,10 @@ call_deed s t method target body closing (refused said) a is h =
     keeps (no_change s method target body closing (refused said) is (λ expected clash. cc) (λ clash. cc)) (ap (λ (x : State). x.stored) h.1)
 
 deed : (s t : State) (r : Req) (bytes : List ℕ) → Step s r bytes t → Deed s t r
-deed s t (request method target body closing) bytes h = call_deed s t method target body closing (call_of method target) h.0 refl h.1
+deed s t (request method target body closing) bytes h = call_deed s t method target body closing (call_of (name_limit_in s) method target) h.0 refl h.1
 deed s t (refused_head refusal bodiless) bytes h = keeps none (ap (λ (x : State). x.stored) h.1)
   where
-    by : {expected : Option ℕ} {e : Edit} → AsksFor (refused_head refusal bodiless) expected e → ⊥
+    by : {expected : Option ℕ} {e : Edit} → AsksFor (name_limit_in s) (refused_head refusal bodiless) expected e → ⊥
     by asks = elim asks [ ]
 
     other : {effects : List Effect} → RunsWith s (refused_head refusal bodiless) effects → ⊥
@@ -132,7 +135,8 @@ run_by s t call body a is h = subst (λ k. Calls s k body a t) is h
 pub call_then_lem : CallThen
 call_then_lem s u front rest method target body closing answers is run =
     let p = split_run s u front rest (request method target body closing) answers run in
-    let h = run_by p.t p.v (call_of method target) body p.step.0 is p.step.1 in (
+    let there : call_of (name_limit_in p.t) method target ≡ routes.run = subst (λ (q : Profile). call_of q.limits.name method target ≡ routes.run) (sym (run_keeps s p.t front p.before p.first)) is in
+    let h = run_by p.t p.v (call_of (name_limit_in p.t) method target) body p.step.0 there p.step.1 in (
       p.before,
       p.after,
       p.t,

@@ -17,7 +17,7 @@ use Rattle.gql_http.specs.Answers.{Said, answer_bytes, edit_said, report_said, r
 use Rattle.gql_http.specs.Connections.{requests_of, joined, held_after, Serves, Breaks}
 use Rattle.gql_http.specs.Events.{with_connection, does_open, does_feed, does_break, does_close, ignores}
 use Rattle.gql_http.specs.Laws.{OneStep, OneRun, OneDeed}
-use Rattle.gql_http.specs.Limits.{limit_in}
+use Rattle.gql_http.specs.Limits.{limit_in, name_limit_in}
 use Rattle.gql_http.specs.Routes.{Call, report, put, remove, put_data, run, refused, call_of}
 use Rattle.gql_http.specs.Service.{Calls, Edits, Run, Runs, calls, gives_text, bad_body, done, more}
 use Rattle.serde_json.specs.Data.{Data}
@@ -92,7 +92,7 @@ module _ (edits : OneEdit) (calls_one : OneCall) (reports : OneReport) where
 
   pub one_step_lem : OneStep
   one_step_lem s t u (request method target body closing) a b h k =
-      let same = one_call s t u (call_of method target) body h.0 k.0 h.1 k.1 in
+      let same = one_call s t u (call_of (name_limit_in s) method target) body h.0 k.0 h.1 k.1 in
       (h.2 ∙ ap (answer_bytes closing (is_head method)) same.0 ∙ sym k.2, same.1)
   one_step_lem s t u (refused_head refusal bodiless) a b h k = (h.0 ∙ sym k.0, h.1 ∙ sym k.1)
 

@@ -8,7 +8,7 @@ use Rattle.gql_http.specs.Answers.{Said}
 use Rattle.gql_http.specs.Connections.{Serves, Breaks}
 use Rattle.gql_http.specs.Events.{Event, Connections, Does, does_open, does_feed, does_break, does_close, ignores}
 use Rattle.gql_http.specs.Laws.{RunKeepsProfile}
-use Rattle.gql_http.specs.Limits.{body_limit_of, limit_in}
+use Rattle.gql_http.specs.Limits.{body_limit_of, limit_in, name_limit_in}
 use Rattle.gql_http.specs.Routes.{Call, report, put, remove, put_data, run, refused, call_of}
 use Rattle.gql_http.specs.Service.{Step, Calls, Run, done, more}
 
@@ -21,7 +21,7 @@ call_keeps s t run body a h = ap profile_of h.2
 call_keeps s t (refused said) body a h = ap profile_of h.1
 
 pub step_keeps : (s t : State) (r : Req) (bytes : List ℕ) → Step s r bytes t → profile_of t ≡ profile_of s
-step_keeps s t (request method target body closing) bytes h = call_keeps s t (call_of method target) body h.0 h.1
+step_keeps s t (request method target body closing) bytes h = call_keeps s t (call_of (name_limit_in s) method target) body h.0 h.1
 step_keeps s t (refused_head refusal bodiless) bytes h = ap profile_of h.1
 
 pub run_keeps : RunKeepsProfile

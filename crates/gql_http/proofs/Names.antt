@@ -23,13 +23,13 @@ bytes_are_ascii (b ∷ bs) h =
     let parts = both (is_file_name_byte b) (list_all is_file_name_byte bs) h in
     ascii_cons b bs (byte_is_ascii b parts.0) (bytes_are_ascii bs parts.1)
 
-pub name_is_text : (bs : List ℕ) → is_file_name bs ≡ true → IsUtf8 bs
-name_is_text bs h = IsUtf8-from_ascii bs (bytes_are_ascii bs (both _ _ h).1)
+pub name_is_text : (most : ℕ) (bs : List ℕ) → is_file_name most bs ≡ true → IsUtf8 bs
+name_is_text most bs h = IsUtf8-from_ascii bs (bytes_are_ascii bs (both _ _ h).1)
 
-by_test : (bs : List ℕ) (t : Bool) → is_file_name bs ≡ t → (IsUtf8 bs → ⊥) → is_file_name bs ≡ false
-by_test bs true h no_text = absurd (no_text (name_is_text bs h))
-by_test bs false h no_text = h
+by_test : (most : ℕ) (bs : List ℕ) (t : Bool) → is_file_name most bs ≡ t → (IsUtf8 bs → ⊥) → is_file_name most bs ≡ false
+by_test most bs true h no_text = absurd (no_text (name_is_text most bs h))
+by_test most bs false h no_text = h
 
 -- bytes that are no text are no name
-pub no_text_no_name : (bs : List ℕ) → (IsUtf8 bs → ⊥) → is_file_name bs ≡ false
-no_text_no_name bs no_text = by_test bs (is_file_name bs) refl no_text
+pub no_text_no_name : (most : ℕ) (bs : List ℕ) → (IsUtf8 bs → ⊥) → is_file_name most bs ≡ false
+no_text_no_name most bs no_text = by_test most bs (is_file_name most bs) refl no_text

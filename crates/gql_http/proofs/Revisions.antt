@@ -11,6 +11,7 @@ use Rattle.gql_wire.specs.Stream.{Req, request, refused as refused_head}
 use Rattle.gql_http.specs.Answers.{Said, edit_said}
 use Rattle.gql_http.specs.History.{AsksFor, asks_to_put, asks_to_remove, asks_to_put_data, IsAcceptedEdit, AcceptedEdits, no_edits, one_edit, no_edit}
 use Rattle.gql_http.specs.Laws.{RevisionCounts}
+use Rattle.gql_http.specs.Limits.{name_limit_in}
 use Rattle.gql_http.specs.Routes.{Call, report, put, remove, put_data, refused, call_of}
 use Rattle.gql_http.specs.Routes as routes
 use Rattle.gql_http.specs.Service.{Step, Calls, Run, done, more}
@@ -24,7 +25,7 @@ data Deed (s t : State) (r : Req) : Type 0 where
   keeps : ((e : Edit) → IsAcceptedEdit s r e → ⊥) → t.revision ≡ s.revision → Deed s t r
 
 put_deed : (s t : State) (side : FileSide) (method target body name : List ℕ) (closing : Bool) (expected : Option ℕ) (a : Said) (r : Result Edited Refusal)
-    → call_of method target ≡ put side name expected
+    → call_of (name_limit_in s) method target ≡ put side name expected
     → edit_said r ≡ Some a → Makes s expected (edit.put side name body) r t → Deed s t (request method target body closing)
 put_deed s t side method target body name closing expected a (Ok edited) is said h =
     edits (edit.put side name body) (record { expected = expected; asks = asks_to_put is; accepted = h.0 }) (ap (λ (x : State). x.revision) h.1.2)
@@ -33,7 +34,7 @@ put_deed s t side method target body name closing expected a (Err q) is said h =
     keeps (put_refused s side method target body name closing expected q is refusal.0.fails) (ap (λ (x : State). x.revision) refusal.1)
 
 removal_deed : (s t : State) (side : FileSide) (method target body name : List ℕ) (closing : Bool) (expected : Option ℕ) (a : Said) (r : Result Edited Refusal)
-    → call_of method target ≡ remove side name expected
+    → call_of (name_limit_in s) method target ≡ remove side name expected
     → edit_said r ≡ Some a → Makes s expected (edit.remove side name) r t → Deed s t (request method target body closing)
 removal_deed s t side method target body name closing expected a (Ok edited) is said h =
     edits (edit.remove side name) (record { expected = expected; asks = asks_to_remove is; accepted = h.0 }) (ap (λ (x : State). x.revision) h.1)
@@ -42,7 +43,7 @@ removal_deed s t side method target body name closing expected a (Err q) is said
     keeps (removal_refused s side method target body name closing expected q is refusal.0.fails) (ap (λ (x : State). x.revision) refusal.1)
 
 data_deed : (s t : State) (method target body : List ℕ) (closing : Bool) (expected : Option ℕ) (a : Said) (r : Result Edited Refusal)
-    → call_of method target ≡ put_data expected
+    → call_of (name_limit_in s) method target ≡ put_data expected
     → edit_said r ≡ Some a → Makes s expected (edit.put_data body) r t → Deed s t (request method target body closing)
 data_deed s t method target body closing expected a (Ok edited) is said h =
     edits (edit.put_data body) (record { expected = expected; asks = asks_to_put_data is; accepted = h.0 }) (ap (λ (x : State). x.revision) h.1.2)
@@ -50,7 +51,7 @@ data_deed s t method target body closing expected a (Err q) is said h =
     let refusal = first_refusal s t expected (edit.put_data body) q (said_made (Err q) a said) h in
     keeps (data_refused s method target body closing expected q is refusal.0.fails) (ap (λ (x : State). x.revision) refusal.1)
 
-call_deed : (s t : State) (method target body : List ℕ) (closing : Bool) (call : Call) (a : Said) → call_of method target ≡ call → Calls s call body a t
+call_deed : (s t : State) (method target body : List ℕ) (closing : Bool) (call : Call) (a : Said) → call_of (name_limit_in s) method target ≡ call → Calls s call body a t
     → Deed s t (request method target body closing)
 call_deed s t method target body closing report a is h =
     keeps (presence.no_edit s method target body closing report is (λ side name expected clash. cc) (λ side name expected clash. cc) (λ expected clash. cc)) (ap (λ (x : State). x.revision) h.1)
@@ -63,10 +64,10 @@ call_deed s t method target body closing (refused said) a is h =
     keeps (presence.no_edit s method target body closing (refused said) is (λ side name expected clash. cc) (λ side name expected clash. cc) (λ expected clash. cc)) (ap (λ (x : State). x.revision) h.1)
 
 deed : (s t : State) (r : Req) (bytes : List ℕ) → Step s r bytes t → Deed s t r
-deed s t (request method target body closing) bytes h = call_deed s t method target body closing (call_of method target) h.0 refl h.1
+deed s t (request method target body closing) bytes h = call_deed s t method target body closing (call_of (name_limit_in s) method target) h.0 refl h.1
 deed s t (refused_head refusal bodiless) bytes h = keeps (λ e k. by k.asks) (ap (λ (x : State). x.revision) h.1)
   where
-    by : {expected : Option ℕ} {e : Edit} → AsksFor (refused_head refusal bodiless) expected e → ⊥
+    by : {expected : Option ℕ} {e : Edit} → AsksFor (name_limit_in s) (refused_head refusal bodiless) expected e → ⊥
     by asks = elim asks [ ]
 
 pub revision_counts_lem : RevisionCounts

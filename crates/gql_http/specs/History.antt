@@ -10,28 +10,30 @@ use Rattle.gql_registry.specs.State.{State, profile_of}
 use Rattle.gql_stored.specs.Effects.{Effect, after}
 use Rattle.gql_wire.specs.Stream.{Req, request}
 use Rattle.gql_http.specs.Answers.{Said}
+use Rattle.gql_http.specs.Limits.{name_limit_in}
 use Rattle.gql_http.specs.Routes.{put, remove, put_data, run, call_of}
 use Rattle.gql_http.specs.Service.{Runs, Step}
 use Rattle.serde_json.specs.Data.{Data}
 
--- the request asks for this edit, and expects this revision or any
-pub data AsksFor : Req → Option ℕ → Edit → Type 0 where
+-- the request asks for this edit, and expects this revision or any, where the name of a file has at
+-- most so many bytes
+pub data AsksFor (most : ℕ) : Req → Option ℕ → Edit → Type 0 where
   asks_to_put : {side : FileSide} {method target body name : List ℕ}
       {closing : Bool} {expected : Option ℕ}
-      → call_of method target ≡ put side name expected
-      → AsksFor (request method target body closing) expected (edit.put side name body)
+      → call_of most method target ≡ put side name expected
+      → AsksFor most (request method target body closing) expected (edit.put side name body)
   asks_to_remove : {side : FileSide} {method target body name : List ℕ}
       {closing : Bool} {expected : Option ℕ}
-      → call_of method target ≡ remove side name expected
-      → AsksFor (request method target body closing) expected (edit.remove side name)
+      → call_of most method target ≡ remove side name expected
+      → AsksFor most (request method target body closing) expected (edit.remove side name)
   asks_to_put_data : {method target body : List ℕ} {closing : Bool} {expected : Option ℕ}
-      → call_of method target ≡ put_data expected
-      → AsksFor (request method target body closing) expected (edit.put_data body)
+      → call_of most method target ≡ put_data expected
+      → AsksFor most (request method target body closing) expected (edit.put_data body)
 
 -- the request is an accepted edit in this state
 pub record IsAcceptedEdit (s : State) (r : Req) (e : Edit) : Type 0 where
   pub expected : Option ℕ
-  pub asks : AsksFor r expected e
+  pub asks : AsksFor (name_limit_in s) r expected e
   pub accepted : IsAccepted s expected e
 
 -- What a name of a side holds after requests, by the accepted edits among them alone: the document
@@ -51,7 +53,7 @@ pub data Holds (side : FileSide) (name : List ℕ) : State
 -- the request is a run, which adds these effects to the data of this state; none if it is refused
 pub data RunsWith (s : State) : Req → List Effect → Type 0 where
   runs_with : {method target body : List ℕ} {closing : Bool} {a : Said} {effects : List Effect}
-      → call_of method target ≡ run → Runs s body a effects
+      → call_of (name_limit_in s) method target ≡ run → Runs s body a effects
       → RunsWith s (request method target body closing) effects
 
 -- the request changes the data of this state: it puts data and is accepted, or it is a run

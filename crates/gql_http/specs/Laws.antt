@@ -13,7 +13,7 @@ use Rattle.gql_http.specs.Answers.{Said, answer_bytes, report_said}
 use Rattle.gql_http.specs.Connections.{requests_of, joined}
 use Rattle.gql_http.specs.Events.{Event, opens, feeds, breaks, closes, Connections, all_closed, Does, Behaves}
 use Rattle.gql_http.specs.History.{AcceptedEdits, DataAfter, Holds}
-use Rattle.gql_http.specs.Limits.{limit_in}
+use Rattle.gql_http.specs.Limits.{limit_in, name_limit_in}
 use Rattle.gql_http.specs.Order.{Order, Answers, on}
 use Rattle.gql_http.specs.Routes.{report, run, call_of}
 use Rattle.gql_http.specs.Service.{Step, Run, Runs}
@@ -102,7 +102,7 @@ FilesPresent = (profile : Profile) (t : State) (rs : List Req) (answers : List (
     → Run (empty_in profile) rs answers t
     → Holds side name (empty_in profile) None rs (under side name t)
 
--- requests keep the profile, and with it the limit of bodies
+-- requests keep the profile, and with it the limits of bodies and of names
 abbrev pub RunKeepsProfile : Type 0
 RunKeepsProfile = (s t : State) (rs : List Req) (answers : List (List ℕ)) → Run s rs answers t
     → profile_of t ≡ profile_of s
@@ -112,7 +112,7 @@ RunKeepsProfile = (s t : State) (rs : List Req) (answers : List (List ℕ)) → 
 abbrev pub ReportThen : Type 0
 ReportThen = (s u : State) (front rest : List Req) (method target body : List ℕ) (closing : Bool)
     (answers : List (List ℕ))
-    → call_of method target ≡ report
+    → call_of (name_limit_in s) method target ≡ report
     → Run s (front ++ (request method target body closing ∷ rest)) answers u
     → (before after : List (List ℕ)) × (t : State) × (faults : List Fault) × Run s front before t
     × IsReport t.files faults
@@ -146,7 +146,7 @@ RevisionCounts = (s t : State) (rs : List Req) (answers : List (List ℕ)) → R
 abbrev pub CallThen : Type 0
 CallThen = (s u : State) (front rest : List Req) (method target body : List ℕ) (closing : Bool)
     (answers : List (List ℕ))
-    → call_of method target ≡ run
+    → call_of (name_limit_in s) method target ≡ run
     → Run s (front ++ (request method target body closing ∷ rest)) answers u
     → (before after : List (List ℕ)) × (t : State) × (said : Said) × (effects : List Effect)
     × Run s front before t × Runs t body said effects

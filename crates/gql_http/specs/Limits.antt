@@ -1,4 +1,4 @@
--- How long the bodies of requests may be.
+-- How long the bodies of requests may be, and the names of files in their targets.
 use Rattle.std.specs.Prelude.{ℕ, List, Bool, true, min, ◌==◌, Option, Some, None}
 use Rattle.std.specs.List.{list_all}
 use Rattle.gql_ast.specs.declared.profile.Profile.{Profile}
@@ -13,6 +13,10 @@ body_limit_of profile = min profile.limits.body greatest_body_limit
 -- the most bytes of a body in this state
 abbrev pub limit_in : State → ℕ
 limit_in s = body_limit_of (profile_of s)
+
+-- the most bytes of the name of a file in this state
+abbrev pub name_limit_in : State → ℕ
+name_limit_in s = (profile_of s).limits.name
 
 -- whether a framer has this limit, if there is one
 abbrev pub has_limit : ℕ → Option Framing → Bool

@@ -63,24 +63,25 @@ schema_prefix = codes "/schema/"
 abbrev pub documents_prefix : List ℕ
 documents_prefix = codes "/documents/"
 
--- the file of a name on a side, if a file may have the name
-abbrev pub file_resource : FileSide → List ℕ → Resource
-file_resource side name = if is_file_name name then file side name else nothing
+-- the file of a name on a side, if a file may have the name: it has at most so many bytes
+abbrev pub file_resource : ℕ → FileSide → List ℕ → Resource
+file_resource most side name = if is_file_name most name then file side name else nothing
 
 -- the file that a path names, if it names one
-abbrev pub file_of : List ℕ → Resource
-file_of path =
-    if starts_with nat_eq path schema_prefix then file_resource Schema (drop 8 path)
-    else if starts_with nat_eq path documents_prefix then file_resource Documents (drop 11 path)
+abbrev pub file_of : ℕ → List ℕ → Resource
+file_of most path =
+    if starts_with nat_eq path schema_prefix then file_resource most Schema (drop 8 path)
+    else if starts_with nat_eq path documents_prefix
+    then file_resource most Documents (drop 11 path)
     else nothing
 
 -- what a path names
-abbrev pub resource_of : List ℕ → Resource
-resource_of path =
+abbrev pub resource_of : ℕ → List ℕ → Resource
+resource_of most path =
     if bytes_eq path (codes "/report") then the_report
     else if bytes_eq path (codes "/data") then the_data
     else if bytes_eq path (codes "/run") then the_run
-    else file_of path
+    else file_of most path
 
 -- a call that takes no query
 abbrev pub without_query : Query → Call → Call
@@ -120,7 +121,8 @@ call_on (file side name) method query =
     else if bytes_eq method (codes "DELETE") then removing query side name
     else refused (not_allowed PutDelete)
 
--- The call that a method and a target make. The checks are made in this order: the path (305), the
--- method (306), the query (308).
-abbrev pub call_of : List ℕ → List ℕ → Call
-call_of method target = call_on (resource_of (path_of target)) method (query_of target)
+-- The call that a method and a target make, where the name of a file has at most so many bytes. The
+-- checks are made in this order: the path (305), the method (306), the query (308).
+abbrev pub call_of : ℕ → List ℕ → List ℕ → Call
+call_of most method target =
+    call_on (resource_of most (path_of target)) method (query_of target)

@@ -14,6 +14,7 @@ use Rattle.serde_json.specs.Data.{Data}
 use Rattle.gql_wire.specs.Head.{is_head}
 use Rattle.gql_wire.specs.Stream.{Req, request, refused as refused_head}
 use Rattle.gql_http.specs.Answers.{Said, answer_bytes, bad_run_body, edit_said, head_said, report_said, run_said, stored_operations_only}
+use Rattle.gql_http.specs.Limits.{name_limit_in}
 use Rattle.gql_http.specs.Routes.{Call, report, put, remove, put_data, run, refused, call_of}
 
 -- the answer to an edit, and the state that it leaves, unless an allocation fails
@@ -44,7 +45,7 @@ Calls s (refused said) body a t = (a ≡ said) × (t ≡ s)
 -- a request in the state s is answered with these bytes, and leaves the state t
 abbrev pub Step : State → Req → List ℕ → State → Type 0
 Step s (request method target body closing) bytes t =
-    (a : Said) × Calls s (call_of method target) body a t
+    (a : Said) × Calls s (call_of (name_limit_in s) method target) body a t
     × (bytes ≡ answer_bytes closing (is_head method) a)
 Step s (refused_head refusal bodiless) bytes t =
     (bytes ≡ answer_bytes true bodiless (head_said refusal)) × (t ≡ s)

@@ -1,5 +1,5 @@
 //! Which call a request is.
-ghost use Rattle.std.specs.Prelude.{◌≡◌, Some, None, drop, bytes_eq, codes, if◌then◌else◌, nat_eq};
+ghost use Rattle.std.specs.Prelude.{◌≡◌, IfOk, Some, None, drop, bytes_eq, codes, if◌then◌else◌, nat_eq};
 ghost use Rattle.std.specs.List.{starts_with};
 ghost use Rattle.gql_ast.specs.FileNames.{is_file_name};
 ghost use Rattle.gql_http.specs.Routes.{call_of, call_on, resource_of, file_of, file_resource, without_query, putting, putting_data, removing};
@@ -8,6 +8,7 @@ ghost use Rattle.gql_http.specs.Called.{call_said, resource_said};
 use crate::query::{Query, path_of, query_of};
 use gql_ast::{FileName, FileSide};
 use gql_wire::Allow;
+use std::alloc::{AllocError, Global};
 use std::str;
 
 /// How the paths of schema files begin.
@@ -63,48 +64,57 @@ enum Resource {
     File(FileSide, FileName),
 }
 
-fn file_name(bytes: &[u8]) -> Option<FileName>
-    ensures { result ≡ (if is_file_name bytes.now then Some bytes.now else None) }
+/// The name of a file that these bytes are, if they are one of at most so many bytes.
+fn file_name(alloc: Global, bytes: &[u8], most: usize) -> Result<Option<FileName>, AllocError>
+    ensures { IfOk result (λ name. name
+        ≡ (if is_file_name most bytes.now then Some bytes.now else None)) }
 {
     let Ok(text) = str::from_utf8(bytes) else {
-        return None;
+        return Ok(None);
     };
-    FileName::read(text)
+    let name = FileName::read(alloc, text, most)?;
+    Ok(name)
 }
 
-fn file_resource(side: FileSide, name: &[u8]) -> Resource
-    ensures { resource_said result ≡ file_resource side name.now }
+fn file_resource(
+    alloc: Global,
+    side: FileSide,
+    name: &[u8],
+    most: usize,
+) -> Result<Resource, AllocError>
+    ensures { IfOk result (λ found. resource_said found ≡ file_resource most side name.now) }
 {
-    match file_name(name) {
-        Some(name) => Resource::File(side, name),
-        None => Resource::Nothing,
+    let name = file_name(alloc, name, most)?;
+    match name {
+        Some(name) => Ok(Resource::File(side, name)),
+        None => Ok(Resource::Nothing),
     }
 }
 
 /// The file that a path names.
-fn file_of(path: &[u8]) -> Resource
-    ensures { resource_said result ≡ file_of path.now }
+fn file_of(alloc: Global, path: &[u8], most: usize) -> Result<Resource, AllocError>
+    ensures { IfOk result (λ found. resource_said found ≡ file_of most path.now) }
 {
     if path.starts_with(SCHEMA) {
-        file_resource(FileSide::Schema, &path[SCHEMA.len()..])
+        file_resource(alloc, FileSide::Schema, &path[SCHEMA.len()..], most)
     } else if path.starts_with(DOCUMENTS) {
-        file_resource(FileSide::Documents, &path[DOCUMENTS.len()..])
+        file_resource(alloc, FileSide::Documents, &path[DOCUMENTS.len()..], most)
     } else {
-        Resource::Nothing
+        Ok(Resource::Nothing)
     }
 }
 
-fn resource_of(path: &[u8]) -> Resource
-    ensures { resource_said result ≡ resource_of path.now }
+fn resource_of(alloc: Global, path: &[u8], most: usize) -> Result<Resource, AllocError>
+    ensures { IfOk result (λ found. resource_said found ≡ resource_of most path.now) }
 {
     if path == b"/report".as_slice() {
-        Resource::Report
+        Ok(Resource::Report)
     } else if path == b"/data".as_slice() {
-        Resource::Data
+        Ok(Resource::Data)
     } else if path == b"/run".as_slice() {
-        Resource::Run
+        Ok(Resource::Run)
     } else {
-        file_of(path)
+        file_of(alloc, path, most)
     }
 }
 
@@ -170,9 +180,11 @@ fn call_on(resource: Resource, method: &[u8], query: Query) -> Call
     }
 }
 
-/// The call that a request's method and target make.
-pub fn call_of(method: &[u8], target: &[u8]) -> Call
-    ensures { call_said result ≡ call_of method.now target.now }
+/// The call that a request's method and target make, where the name of a file has at most so many
+/// bytes.
+pub fn call_of(alloc: Global, method: &[u8], target: &[u8], most: usize) -> Result<Call, AllocError>
+    ensures { IfOk result (λ call. call_said call ≡ call_of most method.now target.now) }
 {
-    call_on(resource_of(path_of(target)), method, query_of(target))
+    let resource = resource_of(alloc, path_of(target), most)?;
+    Ok(call_on(resource, method, query_of(target)))
 }

@@ -269,7 +269,8 @@ pub fn step(
                 closing: *closing,
                 bodiless: is_head(method.as_slice()),
             };
-            let call = call_of(method.as_slice(), target.as_slice());
+            let most = registry.profile().limits.name;
+            let call = call_of(alloc, method.as_slice(), target.as_slice(), most)?;
             make_call(alloc, registry, out, call, body.as_slice(), ending)
         }
         Framed::Refused { number, bodiless } => {

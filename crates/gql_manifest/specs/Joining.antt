@@ -14,27 +14,28 @@ use Rattle.gql_manifest.specs.declared.fault.ManifestFault.TheVariants.{Clash, M
 use Rattle.gql_manifest.specs.declared.files.MadeFile.{MadeFile}
 use Rattle.gql_manifest.specs.declared.joined.FolderNames.{FolderNames}
 
--- the path is that of the file of this name on a side
-abbrev pub IsNamed : FileSide → List ℕ → List ℕ → Type 0
-IsNamed side name path = role_at path ≡ File side name
+-- the path is that of the file of this name on a side, where a name has at most so many bytes
+abbrev pub IsNamed : ℕ → FileSide → List ℕ → List ℕ → Type 0
+IsNamed most side name path = role_at most path ≡ File side name
 
 -- two paths are those of files that have one name on one side
-abbrev pub HaveOneName : List ℕ → List ℕ → Type 0
-HaveOneName p q = (side : FileSide) × (name : List ℕ) × IsNamed side name p × IsNamed side name q
+abbrev pub HaveOneName : ℕ → List ℕ → List ℕ → Type 0
+HaveOneName most p q = (side : FileSide) × (name : List ℕ) × IsNamed most side name p
+    × IsNamed most side name q
 
 -- no file of the folder has the name of the file at this path
-abbrev pub IsFree : List GivenFile → List ℕ → Type 0
-IsFree files path =
-    (f : GivenFile) → Contains files f → HaveOneName (string_bytes f.path) path → ⊥
+abbrev pub IsFree : ℕ → List GivenFile → List ℕ → Type 0
+IsFree most files path =
+    (f : GivenFile) → Contains files f → HaveOneName most (string_bytes f.path) path → ⊥
 
 -- no file of the folder has the name of a made one
-abbrev pub AreApart : List GivenFile → List MadeFile → Type 0
-AreApart files made =
-    (m : MadeFile) → Contains made m → IsFree files (string_bytes m.file.path)
+abbrev pub AreApart : ℕ → List GivenFile → List MadeFile → Type 0
+AreApart most files made =
+    (m : MadeFile) → Contains made m → IsFree most files (string_bytes m.file.path)
 
 -- the file is one of the folder, and has the name of the file at this path
-abbrev pub IsTaken : List GivenFile → List ℕ → GivenFile → Type 0
-IsTaken files path f = Contains files f × HaveOneName (string_bytes f.path) path
+abbrev pub IsTaken : ℕ → List GivenFile → List ℕ → GivenFile → Type 0
+IsTaken most files path f = Contains files f × HaveOneName most (string_bytes f.path) path
 
 -- the files that are made
 abbrev pub files_made : List MadeFile → List GivenFile
@@ -46,21 +47,22 @@ SaysClash path source (Clash p m s) = (string_bytes m ≡ path) × (string_bytes
 SaysClash path source _ = ⊥
 
 -- a file of the folder has the name of a made one, which the fault names
-abbrev pub IsClash : List GivenFile → List MadeFile → ManifestFault → Type 0
-IsClash files made fault = (f : GivenFile) × (m : MadeFile) × Contains made m
-    × IsTaken files (string_bytes m.file.path) f
+abbrev pub IsClash : ℕ → List GivenFile → List MadeFile → ManifestFault → Type 0
+IsClash most files made fault = (f : GivenFile) × (m : MadeFile) × Contains made m
+    × IsTaken most files (string_bytes m.file.path) f
     × SaysClash (string_bytes m.file.path) (string_bytes m.source) fault
 
 -- why the files are not added: an allocation fails, or a file of the folder has the name of a made
 -- one, and those of the folder are as they were
 abbrev pub IsJoinFault
-    : List GivenFile → List MadeFile → List GivenFile → ManifestFault → Type 0
-IsJoinFault old made new fault = (fault ≡ Memory) ⊎ ((new ≡ old) × IsClash old made fault)
+    : ℕ → List GivenFile → List MadeFile → List GivenFile → ManifestFault → Type 0
+IsJoinFault most old made new fault =
+    (fault ≡ Memory) ⊎ ((new ≡ old) × IsClash most old made fault)
 
 -- the file at this index has this name on a side
-abbrev pub IsNamedAt : FileSide → List GivenFile → List ℕ → ℕ → Type 0
-IsNamedAt side files name at =
-    (f : GivenFile) × (slice_get files at ≡ Some f) × IsNamed side name (string_bytes f.path)
+abbrev pub IsNamedAt : ℕ → FileSide → List GivenFile → List ℕ → ℕ → Type 0
+IsNamedAt most side files name at =
+    (f : GivenFile) × (slice_get files at ≡ Some f) × IsNamed most side name (string_bytes f.path)
 
 -- the index under a name
 abbrev pub index_of : BTreeMap (List ℕ) ℕ → List ℕ → Option ℕ
@@ -68,22 +70,22 @@ index_of = get (slice_cmp nat_cmp)
 
 -- the names are those of the files of a side among the first `count`: under each name is the index
 -- of a file that has it
-pub record AreNames (side : FileSide) (files : List GivenFile) (count : ℕ)
+pub record AreNames (most : ℕ) (side : FileSide) (files : List GivenFile) (count : ℕ)
     (names : BTreeMap (List ℕ) ℕ) : Type 0 where
   pub each : (name : List ℕ) (at : ℕ) → index_of names name ≡ Some at
-      → (at < count) × IsNamedAt side files name at
-  pub all : (name : List ℕ) (at : ℕ) → at < count → IsNamedAt side files name at
+      → (at < count) × IsNamedAt most side files name at
+  pub all : (name : List ℕ) (at : ℕ) → at < count → IsNamedAt most side files name at
       → IsSome (index_of names name)
 
 -- the path is that of no file of a side
-abbrev pub IsNone : FileSide → List ℕ → Type 0
-IsNone side path = (name : List ℕ) → IsNamed side name path → ⊥
+abbrev pub IsNone : ℕ → FileSide → List ℕ → Type 0
+IsNone most side path = (name : List ℕ) → IsNamed most side name path → ⊥
 
 -- the index is under the name of the path, if that is one of the side, and else nothing changes
 abbrev pub AddsName
-    : FileSide → List ℕ → ℕ → BTreeMap (List ℕ) ℕ → BTreeMap (List ℕ) ℕ → Type 0
-AddsName side path at old new = (IsNone side path × (new ≡ old))
-    ⊎ ((name : List ℕ) × IsNamed side name path
+    : ℕ → FileSide → List ℕ → ℕ → BTreeMap (List ℕ) ℕ → BTreeMap (List ℕ) ℕ → Type 0
+AddsName most side path at old new = (IsNone most side path × (new ≡ old))
+    ⊎ ((name : List ℕ) × IsNamed most side name path
     × Updates (slice_cmp nat_cmp) old new name (Some at))
 
 -- the index of the file of a role
@@ -93,6 +95,6 @@ index_in names (File Documents name) = index_of names.documents name
 index_in names _ = None
 
 -- the names of both sides are those of these files
-pub record AreAllNames (files : List GivenFile) (names : FolderNames) : Type 0 where
-  pub schema : AreNames Schema files (length files) names.schema
-  pub documents : AreNames Documents files (length files) names.documents
+pub record AreAllNames (most : ℕ) (files : List GivenFile) (names : FolderNames) : Type 0 where
+  pub schema : AreNames most Schema files (length files) names.schema
+  pub documents : AreNames most Documents files (length files) names.documents

@@ -19,16 +19,20 @@ struct FolderNames {
     documents: BTreeMap<FileName, usize>,
 }
 
-/// Adds the name of the file at this path and index, if it is one of this side.
+/// Adds the name of the file at this path and index, if it is one of this side. A name has at most
+/// so many bytes.
 fn add_name(
+    alloc: Global,
     names: &mut BTreeMap<FileName, usize>,
     side: FileSide,
     path: &str,
     at: usize,
+    most: usize,
 ) -> Result<(), AllocError>
-    ensures { OnOk result (AddsName side path.now at names.old names.new) }
+    ensures { OnOk result (AddsName most side path.now at names.old names.new) }
 {
-    let Role::File(its_side, name) = role_of(path) else {
+    let role = role_of(alloc, path, most)?;
+    let Role::File(its_side, name) = role else {
         return Ok(());
     };
     if its_side != side {
@@ -43,35 +47,37 @@ fn names_on(
     alloc: Global,
     side: FileSide,
     files: &[GivenFile],
+    most: usize,
 ) -> Result<BTreeMap<FileName, usize>, AllocError>
-    ensures { IfOk result (AreNames side files.now (length files.now)) }
+    ensures { IfOk result (AreNames most side files.now (length files.now)) }
 {
     let mut names = BTreeMap::new(alloc);
     for (at, file) in files.iter().enumerate() {
-        add_name(&mut names, side, file.path.as_str(), at)?;
+        add_name(alloc, &mut names, side, file.path.as_str(), at, most)?;
     }
     Ok(names)
 }
 
 impl FolderNames {
     /// The names of these files.
-    fn new(alloc: Global, files: &[GivenFile]) -> Result<FolderNames, AllocError>
-        ensures { IfOk result (AreAllNames files.now) }
+    fn new(alloc: Global, files: &[GivenFile], most: usize) -> Result<FolderNames, AllocError>
+        ensures { IfOk result (AreAllNames most files.now) }
     {
         Ok(FolderNames {
-            schema: names_on(alloc, FileSide::Schema, files)?,
-            documents: names_on(alloc, FileSide::Documents, files)?,
+            schema: names_on(alloc, FileSide::Schema, files, most)?,
+            documents: names_on(alloc, FileSide::Documents, files, most)?,
         })
     }
 
     /// The index of a file that has the name of the file at a path.
-    fn find(&self, path: &str) -> Option<usize>
-        ensures { result ≡ index_in self.now (role_at path.now) }
+    fn find(&self, alloc: Global, path: &str, most: usize) -> Result<Option<usize>, AllocError>
+        ensures { IfOk result (λ at. at ≡ index_in self.now (role_at most path.now)) }
     {
-        match role_of(path) {
-            Role::File(FileSide::Schema, name) => self.schema.get(&name).copied(),
-            Role::File(FileSide::Documents, name) => self.documents.get(&name).copied(),
-            _ => None,
+        let role = role_of(alloc, path, most)?;
+        match role {
+            Role::File(FileSide::Schema, name) => Ok(self.schema.get(&name).copied()),
+            Role::File(FileSide::Documents, name) => Ok(self.documents.get(&name).copied()),
+            _ => Ok(None),
         }
     }
 }
@@ -84,14 +90,21 @@ fn file_at(files: &[GivenFile], at: usize) -> Option<&GivenFile>
 }
 
 /// The file among these, whose names are given, that has the name of the file at a path.
-fn named_as<'f>(names: &FolderNames, files: &'f [GivenFile], path: &str) -> Option<&'f GivenFile>
-    requires { AreAllNames files.now names.now }
-    ensures { MatchOption result (IsFree files.now path.now)
-        (λ file. IsTaken files.now path.now file.now) }
+fn named_as<'f>(
+    alloc: Global,
+    names: &FolderNames,
+    files: &'f [GivenFile],
+    path: &str,
+    most: usize,
+) -> Result<Option<&'f GivenFile>, AllocError>
+    requires { AreAllNames most files.now names.now }
+    ensures { IfOk result (λ found. MatchOption found (IsFree most files.now path.now)
+        (λ file. IsTaken most files.now path.now file.now)) }
 {
-    match names.find(path) {
-        Some(at) => file_at(files, at),
-        None => None,
+    let found = names.find(alloc, path, most)?;
+    match found {
+        Some(at) => Ok(file_at(files, at)),
+        None => Ok(None),
     }
 }
 
@@ -119,13 +132,15 @@ fn stay_apart(
     folder: &str,
     made: &[MadeFile],
     files: &[GivenFile],
+    most: usize,
 ) -> Result<(), ManifestFault>
-    ensures apart { OnOk result (AreApart files.now made.now) }
-    ensures err { IfErr result (IsJoinFault files.now made.now files.now) }
+    ensures apart { OnOk result (AreApart most files.now made.now) }
+    ensures err { IfErr result (IsJoinFault most files.now made.now files.now) }
 {
-    let names = FolderNames::new(alloc, files)?;
+    let names = FolderNames::new(alloc, files, most)?;
     for one in made {
-        if let Some(file) = named_as(&names, files, one.file.path.as_str()) {
+        let found = named_as(alloc, &names, files, one.file.path.as_str(), most)?;
+        if let Some(file) = found {
             return Err(clash(alloc, folder, file, one)?);
         }
     }
@@ -133,18 +148,20 @@ fn stay_apart(
 }
 
 /// Adds the files that manifests are made into to those of a folder. None may have the name of one
-/// of the folder. Where an allocation fails, some may have been added.
+/// of the folder; a name has at most so many bytes. Where an allocation fails, some may have been
+/// added.
 pub fn add_files(
     alloc: Global,
     folder: &str,
     made: Vec<MadeFile>,
     files: &mut Vec<GivenFile>,
+    most: usize,
 ) -> Result<(), ManifestFault>
     ensures ok { OnOk result (files.new.items ≡ files.old.items ++ files_made made.items) }
-    ensures apart { OnOk result (AreApart files.old.items made.items) }
-    ensures err { IfErr result (IsJoinFault files.old.items made.items files.new.items) }
+    ensures apart { OnOk result (AreApart most files.old.items made.items) }
+    ensures err { IfErr result (IsJoinFault most files.old.items made.items files.new.items) }
 {
-    stay_apart(alloc, folder, made.as_slice(), files.as_slice())?;
+    stay_apart(alloc, folder, made.as_slice(), files.as_slice(), most)?;
     for one in made {
         let MadeFile { file, source: _ } = one;
         files.push(file)?;

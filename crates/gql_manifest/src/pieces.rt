@@ -49,7 +49,7 @@ fn parsed(alloc: Global, at: &Origin, text: &str) -> Result<Document, ManifestFa
     ensures ok { IfOk result (IsDocumentFile text_limit parsed_as text.now) }
     ensures err { IfErr result (OrMemory (IsTextFault (place_of at.now) text.now)) }
 {
-    let Some(name) = FileName::read("manifest") else {
+    let Some(name) = FileName::read(alloc, "manifest", 8)? else {
         return Err(ManifestFault::Memory);
     };
     match parse_any(alloc, name, text) {

@@ -48,8 +48,8 @@ impl BadPair {
     {
         Ok(BadPair {
             about: self.about.copy()?,
-            first: self.first.copy(),
-            second: self.second.copy(),
+            first: self.first.copy()?,
+            second: self.second.copy()?,
             mode: self.mode,
             by_call: self.by_call,
             by_shape: self.by_shape,
@@ -79,8 +79,8 @@ fn bad_of(mode: Mode, first: &FlatField<'_>, second: &FlatField<'_>) -> Result<B
 {
     Ok(BadPair {
         about: own_name(first.known.field).text.copy()?,
-        first: place_of(first),
-        second: place_of(second),
+        first: place_of(first)?,
+        second: place_of(second)?,
         mode,
         by_call: is_by_call(mode, first, second),
         by_shape: is_by_shape(first, second),

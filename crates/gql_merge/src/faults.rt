@@ -25,14 +25,14 @@ pub fn is_before(first: &FlatField<'_>, second: &FlatField<'_>) -> bool
 }
 
 /// Where a field starts.
-pub fn place_of(field: &FlatField<'_>) -> FilePlace
-    ensures { result ≡ conflicts.place_of (info_in field.now.known) }
+pub fn place_of(field: &FlatField<'_>) -> Result<FilePlace, AllocError>
+    ensures { IfOk result (λ at. at ≡ conflicts.place_of (info_in field.now.known)) }
 {
-    FilePlace {
+    Ok(FilePlace {
         side: FileSide::Documents,
-        file: field.known.file.copy(),
+        file: field.known.file.copy()?,
         place: own_name(field.known.field).place,
-    }
+    })
 }
 
 /// Two places, in a list that has room for no more.
@@ -62,8 +62,8 @@ fn fault_of_pair(
     let fault = Fault {
         rule,
         about: own_name(first.known.field).text.copy()?,
-        places: two_places(alloc, place_of(first), place_of(second))?,
-        owner: Some(owner.copy()),
+        places: two_places(alloc, place_of(first)?, place_of(second)?)?,
+        owner: Some(owner.copy()?),
     };
     Shared::new(alloc, fault)
 }

@@ -38,7 +38,7 @@ fn is_named<W: World>(
     let name = fragment.get().name.text.copy()?;
     let fact = world.fact(alloc, &Key::FragmentOf(name))?;
     let own = FragmentFact {
-        file: file.copy(),
+        file: file.copy()?,
         fragment: fragment.clone()?,
     };
     Ok(is_fragment(&fact, &own))

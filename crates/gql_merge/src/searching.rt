@@ -194,7 +194,7 @@ pub fn search<'t, W: World>(
     ensures clean { AreClean (W.facts world.old) clean.new }
     ensures kept { (n : List ℕ) → Contains clean.old n → Contains clean.new n }
 {
-    let owner = owner_of(definition);
+    let owner = owner_of(definition)?;
     let mut sets = own;
     let seeds = numbers_to(alloc, first)?;
     let fragments = add_members(alloc, world, members, &mut sets)?;

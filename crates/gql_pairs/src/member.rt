@@ -98,7 +98,7 @@ fn as_definition(fragment: &FragmentFact) -> Result<Definition, AllocError>
     ensures { IfOk result (λ d. d ≡ definition_of fragment.now) }
 {
     Ok(Definition {
-        file: fragment.file.copy(),
+        file: fragment.file.copy()?,
         tree: Tree::Fragment(fragment.fragment.clone()?),
     })
 }

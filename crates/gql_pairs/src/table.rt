@@ -60,7 +60,7 @@ fn fragment_of(definition: &Definition) -> Result<FragmentFact, AllocError>
         unreachable!();
     };
     Ok(FragmentFact {
-        file: definition.file.copy(),
+        file: definition.file.copy()?,
         fragment: fragment.clone()?,
     })
 }

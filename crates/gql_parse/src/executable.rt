@@ -37,7 +37,7 @@ fn definition_in(
 {
     let tree = definition(alloc, cursor)?;
     Ok(Definition {
-        file: file.copy(),
+        file: file.copy()?,
         tree,
     })
 }

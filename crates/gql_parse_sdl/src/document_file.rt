@@ -60,7 +60,7 @@ fn definition(
 {
     let tree = any_definition(alloc, cursor)?;
     Ok(Definition {
-        file: file.copy(),
+        file: file.copy()?,
         tree,
     })
 }

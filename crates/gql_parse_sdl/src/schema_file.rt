@@ -28,7 +28,7 @@ fn definition(
 {
     let tree = type_system(alloc, cursor)?;
     Ok(Definition {
-        file: file.copy(),
+        file: file.copy()?,
         tree,
     })
 }

@@ -279,17 +279,17 @@ enumerated_puts n [] = refl
 enumerated_puts n (e ∷ es) = ap (λ ys. put n ∷ ys) (enumerated_puts (n + 1) es)
 
 pub all_put_again : AllPutAgain
-all_put_again files ps all =
-    ap (map as_put) (filter_all (passes all (put_again ps)) (enumerate_from 0 (entries_at files)) all_pass) ∙ enumerated_puts 0 (entries_at files)
+all_put_again most files ps all =
+    ap (map as_put) (filter_all (passes all (put_again ps)) (enumerate_from 0 (entries_at most files)) all_pass) ∙ enumerated_puts 0 (entries_at most files)
   where
-    no_sum : (e : Entry) → In e (entries_at files) → bytes_eq (codes "-") e.sum ≡ false
+    no_sum : (e : Entry) → In e (entries_at most files) → bytes_eq (codes "-") e.sum ≡ false
     no_sum e h =
-        let one : (f : ℕ × GivenFile) × In f (enumerate_from 0 files) × (entry_at f ≡ Some e) = of_filter_map entry_at (enumerate_from 0 files) e h in
-        made_sum one.0 (target_at (string_bytes one.0.1.path)) e one.2
+        let one : (f : ℕ × GivenFile) × In f (enumerate_from 0 files) × (entry_at most f ≡ Some e) = of_filter_map (entry_at most) (enumerate_from 0 files) e h in
+        made_sum one.0 (target_at most (string_bytes one.0.1.path)) e one.2
 
-    all_pass : (p : ℕ × Entry) → In p (enumerate_from 0 (entries_at files)) → is_to_put all (put_again ps) p.1 ≡ true
+    all_pass : (p : ℕ × Entry) → In p (enumerate_from 0 (entries_at most files)) → is_to_put all (put_again ps) p.1 ≡ true
     all_pass p h =
-        let at : (k : ℕ) × (p.0 ≡ 0 + k) × (slice_get (entries_at files) k ≡ Some p.1) = of_enumerate 0 (entries_at files) p h in
-        let there : In p.1 (entries_at files) = in_slice_get (entries_at files) at.0 p.1 at.2 in
+        let at : (k : ℕ) × (p.0 ≡ 0 + k) × (slice_get (entries_at most files) k ≡ Some p.1) = of_enumerate 0 (entries_at most files) p h in
+        let there : In p.1 (entries_at most files) = in_slice_get (entries_at most files) at.0 p.1 at.2 in
         or_right all (not (is_pushed (put_again ps) p.1))
         (not_from_false (is_pushed (put_again ps) p.1) (found_again ps p.1 (find (is_of p.1.target) (put_again ps)) refl (no_sum p.1 there)))

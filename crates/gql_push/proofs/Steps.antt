@@ -66,14 +66,14 @@ put_more rs made i m front extra old new within is more before joined =
     ∙ ap (λ ys. front ++ ys) (sym (filter_map-append (put_by rs) (changes_of (take i made)) (change_of m ∷ [])) ∙ ap (put_among rs) (sym (map_taken change_of made i m within is)))
 
 -- one file more, and its resource
-pub files_more : (files : List GivenFile) (i : ℕ) (f : GivenFile) (extra old new : List Resource) → i < length files → f ≡ get_or files i f → entries_of extra ≡ cons_option (entry_at (i, f)) []
-    → entries_of old ≡ entries_at (take i files) → new ≡ old ++ extra → entries_of new ≡ entries_at (take (i + 1) files)
-files_more files i f extra old new within is more before joined =
+pub files_more : (most : ℕ) (files : List GivenFile) (i : ℕ) (f : GivenFile) (extra old new : List Resource) → i < length files → f ≡ get_or files i f → entries_of extra ≡ cons_option (entry_at most (i, f)) []
+    → entries_of old ≡ entries_at most (take i files) → new ≡ old ++ extra → entries_of new ≡ entries_at most (take (i + 1) files)
+files_more most files i f extra old new within is more before joined =
     let long : length (take i files) ≡ i = length-take-le i files (omega arith) in
     let number : 0 + length (take i files) ≡ i = omega arith in
-    ap entries_of joined ∙ map-append entry_of old extra ∙ ap (λ ys. ys ++ entries_of extra) before ∙ ap (λ ys. entries_at (take i files) ++ ys) more
-    ∙ sym (filter_map-append entry_at (enumerate_from 0 (take i files)) ((i, f) ∷ []))
-    ∙ ap (filter_map entry_at) (sym (enumerate-push 0 i (take i files) f number)) ∙ ap entries_at (sym (taken files i f within is))
+    ap entries_of joined ∙ map-append entry_of old extra ∙ ap (λ ys. ys ++ entries_of extra) before ∙ ap (λ ys. entries_at most (take i files) ++ ys) more
+    ∙ sym (filter_map-append (entry_at most) (enumerate_from 0 (take i files)) ((i, f) ∷ []))
+    ∙ ap (filter_map (entry_at most)) (sym (enumerate-push 0 i (take i files) f number)) ∙ ap (entries_at most) (sym (taken files i f within is))
 
 -- what is pushed, from what is there
 pub one_entry : (o : Option Entry) (p : Option Resource) (r : Resource) → option_map entry_of p ≡ o → p ≡ Some r → entries_of (r ∷ []) ≡ cons_option o []

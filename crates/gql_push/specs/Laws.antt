@@ -23,9 +23,9 @@ NothingToPush = (resources pushed : List Entry)
 
 -- each resource is put, where the pushed ones are to be put again
 abbrev pub AllPutAgain : Type 0
-AllPutAgain = (files : List GivenFile) (pushed : List Entry) (all : Bool)
-    → puts all (entries_at files) (put_again pushed)
-    ≡ map put (range_with_len 0 (length (entries_at files)))
+AllPutAgain = (most : ℕ) (files : List GivenFile) (pushed : List Entry) (all : Bool)
+    → puts all (entries_at most files) (put_again pushed)
+    ≡ map put (range_with_len 0 (length (entries_at most files)))
 
 -- Where a push starts at the revision that the registry reports, no edit of it is made after one of
 -- somebody else: it stops at the first edit that expects a revision that is gone.

@@ -31,19 +31,20 @@ target_in Data = Some (codes "data")
 target_in Misnamed = None
 target_in Other = None
 
--- the target of the file at a path below a folder, if it is one of a registry
-abbrev pub target_at : List ℕ → Option (List ℕ)
-target_at path = target_in (role_at path)
+-- the target of the file at a path below a folder, if it is one of a registry where a name has at
+-- most so many bytes
+abbrev pub target_at : ℕ → List ℕ → Option (List ℕ)
+target_at most path = target_in (role_at most path)
 
--- the resource of a file with its index, if it is one of a registry
-abbrev pub entry_at : ℕ × GivenFile → Option Entry
-entry_at f = option_map
+-- the resource of a file with its index, if it is one of such a registry
+abbrev pub entry_at : ℕ → ℕ × GivenFile → Option Entry
+entry_at most f = option_map
     (λ target. record { target = target; sum = sum_at f.1.bytes.items; file = f.0 })
-    (target_at (string_bytes f.1.path))
+    (target_at most (string_bytes f.1.path))
 
 -- the resources of the files of a folder, in the order of the files
-abbrev pub entries_at : List GivenFile → List Entry
-entries_at files = filter_map entry_at (enumerate_from 0 files)
+abbrev pub entries_at : ℕ → List GivenFile → List Entry
+entries_at most files = filter_map (entry_at most) (enumerate_from 0 files)
 
 -- one of these has this target with this sum
 abbrev pub HasSum : List Entry → List ℕ → List ℕ → Type 0

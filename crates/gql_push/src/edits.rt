@@ -57,12 +57,14 @@ impl Edit {
     }
 }
 
-/// The target of the file at a path below a folder, if it is one of a registry.
-fn target_of(alloc: Global, path: &str) -> Result<Option<String>, AllocError>
+/// The target of the file at a path below a folder, if it is one of a registry where a name has at
+/// most so many bytes.
+fn target_of(alloc: Global, path: &str, most: usize) -> Result<Option<String>, AllocError>
     ensures { IfOk result (λ target. option_map (λ t. string_bytes t) target
-        ≡ target_at path.now) }
+        ≡ target_at most path.now) }
 {
-    match role_of(path) {
+    let role = role_of(alloc, path, most)?;
+    match role {
         Role::File(FileSide::Schema, name) => {
             let name = name.as_str();
             Ok(Some(format!(in alloc; "schema/{name}")?))
@@ -76,16 +78,17 @@ fn target_of(alloc: Global, path: &str) -> Result<Option<String>, AllocError>
     }
 }
 
-/// The resource of a file with its index, if it is one of a registry.
+/// The resource of a file with its index, if it is one of such a registry.
 fn resource_of(
     alloc: Global,
     file: usize,
     given: &GivenFile,
+    most: usize,
 ) -> Result<Option<Resource>, AllocError>
     ensures { IfOk result (λ resource. option_map entry_of resource
-        ≡ entry_at (file, given.now)) }
+        ≡ entry_at most (file, given.now)) }
 {
-    match target_of(alloc, given.path.as_str())? {
+    match target_of(alloc, given.path.as_str(), most)? {
         Some(target) => {
             let sum = sum_of(alloc, given.bytes.as_slice())?;
             Ok(Some(Resource { target, sum, file }))
@@ -94,13 +97,18 @@ fn resource_of(
     }
 }
 
-/// The resources of the files of a folder.
-pub fn resources_of(alloc: Global, files: &[GivenFile]) -> Result<Vec<Resource>, AllocError>
-    ensures { IfOk result (λ resources. entries_of resources.items ≡ entries_at files.now) }
+/// The resources of the files of a folder, for a registry where a name has at most so many bytes.
+pub fn resources_of(
+    alloc: Global,
+    files: &[GivenFile],
+    most: usize,
+) -> Result<Vec<Resource>, AllocError>
+    ensures { IfOk result (λ resources. entries_of resources.items
+        ≡ entries_at most files.now) }
 {
     let mut resources = Vec::new(alloc);
     for (file, given) in files.iter().enumerate() {
-        if let Some(resource) = resource_of(alloc, file, given)? {
+        if let Some(resource) = resource_of(alloc, file, given, most)? {
             resources.push(resource)?;
         }
     }

@@ -79,3 +79,20 @@ alike_there a b same o c = elim (Contains-cases o a.observation (about_all a.typ
 
 pub alike_back : (a b : Answer) → AreAlike a b → AreAlike b a
 alike_back a b same = record { key = sym same.key; fact = sym same.fact; there = same.back; back = same.there }
+
+-- an answer like one that has exactly the types that it leads to has them, too
+pub alike_led : (a b : Answer) → AreAlike a b → IsLed b → IsLed a
+alike_led a b same led F hold =
+    let name = λ (u : TypeAnswers). u.name in
+    let types_b : Hold F (about_all b.types) = λ o c.
+    let m = Contains-flat_map_from about b.types o c in
+    hold o (Contains-flat_map about a.types m.0 o (same.back m.0 m.1) m.2) in
+    let l = led F types_b in
+    record {
+      sound = λ n c.
+          let m = Contains-map_from name a.types n c in
+          subst (λ f. LeadsTo F f n) (sym same.fact) (l.sound n (subst (Contains (names_in b.types)) m.2 (Contains-map name b.types m.0 (same.there m.0 m.1))));
+      complete = λ n h.
+          let m = Contains-map_from name b.types n (l.complete n (subst (λ f. LeadsTo F f n) same.fact h)) in
+          subst (Contains (names_in a.types)) m.2 (Contains-map name a.types m.0 (same.back m.0 m.1));
+    }

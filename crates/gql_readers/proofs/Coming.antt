@@ -1,23 +1,16 @@
 -- One observation more of the reader that came last, or of the one that went last.
-use Rattle.std.proofs.Common.{flat_map, ◌||◌, true, ◌≡◌, inl, inr, List, [], ◌∷◌, ◌++◌, ◌+◌, ◌<◌, ℕ, ap, append-nil, append_assoc, get_or, length, refl, sym, subst, take, ◌∙◌, Contains}
+use Rattle.std.proofs.Common.{flat_map, ◌≡◌, inl, inr, List, [], ◌∷◌, ◌++◌, ◌+◌, ◌<◌, ℕ, ap, append-nil, append_assoc, get_or, length, refl, sym, subst, take, ◌∙◌, Contains}
 use Rattle.std.proofs.lemmas.List.{take_more}
 use Rattle.std.proofs.lemmas.List.Elements.{Contains-append_left, Contains-append_right, Contains-append_cases, Contains-push}
-use Rattle.std.specs.List.{list_any}
-use Rattle.std.proofs.lemmas.Map.Views.{Contains-from_any}
-use Rattle.indexmap.specs.IndexSet.{insert_key}
 use Rattle.gql_ast.specs.declared.definition.DefinitionId.{DefinitionId}
-use Rattle.gql_facts.specs.Keys.{is_key, is_key_decides}
-use Rattle.gql_facts.specs.ListMembers.{Contains-nil, Contains-here, Contains-cases, Contains-map, either}
+use Rattle.gql_facts.specs.ListMembers.{Contains-nil, Contains-here, Contains-cases}
 use Rattle.gql_reads.specs.declared.observation.Answer.{Answer}
 use Rattle.gql_facts.specs.declared.key.Key.{Key}
 use Rattle.gql_reads.specs.Records.{Kept}
 use Rattle.gql_readers.specs.Changes.{AreNotes, IsNew, Noted, Notes, WasTold, noted_of}
-use Rattle.gql_reads.proofs.Members.{Contains-map_from}
-use Rattle.gql_reads.proofs.Takes.{inserted_cases}
-use Rattle.gql_readers.specs.Merged.{AreSeen, NotesAt, come_noted, go_noted, noted_or}
-use Rattle.gql_readers.specs.Readers.{Reader, keys_in, observes, readers_of, with_reader}
-use Rattle.gql_readers.proofs.Reading.{observes_has}
-use Rattle.gql_readers.proofs.Noting.{any_more, begun, or_false, fresh_of, list_more, list_stays, one_more, told_all, told_gone, told_step}
+use Rattle.gql_readers.specs.Merged.{NotesAt, come_noted, go_noted, noted_or}
+use Rattle.gql_readers.specs.Readers.{Reader, readers_of, with_reader}
+use Rattle.gql_readers.proofs.Noting.{fresh_of, list_more, list_stays, one_more, told_all, told_gone, told_step}
 
 abbrev reader : DefinitionId → List Answer → Reader
 reader id os = record { id = id; answers = os }
@@ -41,19 +34,6 @@ told_wider others id os o k f t = elim (Contains-append_cases others (reader id 
   ]
 ]
 
--- a key that was observed is observed no more than it was
-observed_again : (id : DefinitionId) (os : List Answer) (o : Answer) (k : Key) → Contains (keys_in os) o.observation.key
-    → observes k (reader id os) ≡ observes k (reader id (os ++ o ∷ []))
-observed_again id os o k has =
-    let p = λ (q : Answer). is_key q.observation.key k in
-    elim (either (is_key o.observation.key k)) [
-      | inl t ↦
-          let s : o.observation.key ≡ k = (is_key_decides o.observation.key k).0 t in
-          let m = Contains-map_from (λ (q : Answer). q.observation.key) os o.observation.key has in
-          observes_has k (reader id os) m.0 m.1 (m.2 ∙ s) ∙ sym (observes_has k (reader id (os ++ o ∷ [])) o (Contains-push os o) s)
-      | inr f ↦ sym (any_more p os o ∙ ap (λ b. list_any p os || b) f ∙ or_false (list_any p os))
-    ]
-
 module _ (id : DefinitionId) (others : List Reader) where
   -- a reader that has observed nothing
   pub come_none : (notes : Notes) (going : List Reader) → AreNotes notes others going → AreNotes notes (with_reader others id []) going
@@ -69,25 +49,6 @@ module _ (id : DefinitionId) (others : List Reader) where
     goes = λ k. are.goes k ∙ sym (one_more k others (reader id []) ∙ append-nil (readers_of k others));
     answers = are.answers;
   }
-
-  -- an observation of a key that the reader has observed
-  module _ (notes : Notes) (os : List Answer) (o : Answer) where
-    abbrev again : Reader
-    again = reader id (os ++ o ∷ [])
-
-    pub come_again : (going : List Reader) → Contains (keys_in os) o.observation.key → AreNotes notes (with_reader others id os) going → AreNotes notes (with_reader others id (os ++ o ∷ [])) going
-    come_again going has are = record {
-      comes = λ k. are.comes k ∙ one_more k others (reader id os) ∙ ap (begun (readers_of k others) id) (observed_again id os o k has) ∙ sym (one_more k others again);
-      goes = are.goes;
-      answers = λ k m e some. told_wider others id os o k m.answer (are.answers k m e some);
-    }
-
-    pub go_again : (coming : List Reader) → Contains (keys_in os) o.observation.key → AreNotes notes coming (with_reader others id os) → AreNotes notes coming (with_reader others id (os ++ o ∷ []))
-    go_again coming has are = record {
-      comes = are.comes;
-      goes = λ k. are.goes k ∙ one_more k others (reader id os) ∙ ap (begun (readers_of k others) id) (observed_again id os o k has) ∙ sym (one_more k others again);
-      answers = are.answers;
-    }
 
   -- one observation more
   module _ (fresh : IsNew id others) (old new : Notes) (os : List Answer) (o : Answer) where
@@ -140,22 +101,3 @@ more_parts own ps i p lt is =
     append_assoc own (answers_of (take i ps)) p.seen
     ∙ ap (λ l. own ++ l) (sym (ap answers_of (take_more ps i p lt ∙ ap (λ y. take i ps ++ y ∷ []) (sym is))
     ∙ seen_append (take i ps) (p ∷ []) ∙ ap (λ l. answers_of (take i ps) ++ l) (append-nil p.seen)))
-
--- ---- keys that were observed
-
-pub seen_none : (os : List Answer) → AreSeen [] os
-seen_none os k c = absurd (Contains-nil k c)
-
-pub seen_has : (keys : List Key) (k : Key) → list_any (is_key k) keys ≡ true → Contains keys k
-seen_has keys k e = Contains-from_any (λ x y. (is_key_decides x y).0) k keys e
-
-pub seen_stays : (keys : List Key) (os : List Answer) (o : Answer) → AreSeen keys os → AreSeen keys (os ++ o ∷ [])
-seen_stays keys os o seen k c =
-    let m = Contains-map_from (λ (q : Answer). q.observation.key) os k (seen k c) in
-    subst (Contains (keys_in (os ++ o ∷ []))) m.2 (Contains-map (λ (q : Answer). q.observation.key) (os ++ o ∷ []) m.0 (Contains-append_left os (o ∷ []) m.0 m.1))
-
-pub seen_next : (keys new : List Key) (os : List Answer) (o : Answer) → new ≡ insert_key is_key keys o.observation.key → AreSeen keys os → AreSeen new (os ++ o ∷ [])
-seen_next keys new os o is seen k c = elim (inserted_cases is_key keys o.observation.key k (subst (λ (ks : List Key). Contains ks k) is c)) [
-  | inl a ↦ seen_stays keys os o seen k a
-  | inr e ↦ subst (Contains (keys_in (os ++ o ∷ []))) (sym e) (Contains-map (λ (q : Answer). q.observation.key) (os ++ o ∷ []) o (Contains-push os o))
-]

@@ -1,5 +1,6 @@
 pub mod Alike
 pub mod Between
+pub mod Chunking
 pub mod Coming
 pub mod Editing
 pub mod Found

@@ -94,7 +94,7 @@ same_in_order {A = A} R trans strict (x ∷ xs) (y ∷ ys) up vp there back =
 pub less_is : (o : Ordering) → o ≡ Less → is_lt o ≡ true
 less_is o e = ap is_lt e
 
-is_less : (o : Ordering) → is_lt o ≡ true → o ≡ Less
+pub is_less : (o : Ordering) → is_lt o ≡ true → o ≡ Less
 is_less Less e = refl
 is_less Equal e = absurd (let t : false ≡ true = e in cc)
 is_less Greater e = absurd (let t : false ≡ true = e in cc)

@@ -1,4 +1,5 @@
 pub mod Changes
+pub mod Chunks
 pub mod Indexes
 pub mod Merged
 pub mod OrderLaws

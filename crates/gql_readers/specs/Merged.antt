@@ -1,5 +1,5 @@
 -- Helper definitions for private contracts: a list in order, with changes of elements in order.
-use Rattle.std.specs.Prelude.{◌≡◌, ◌≢◌, List, [], ◌∷◌, ◌++◌, cond, filter, Bool, true, false, Option, Some, None, ℕ, take, drop, ◌≤◌, length, Contains}
+use Rattle.std.specs.Prelude.{◌≡◌, ◌≢◌, List, [], ◌∷◌, ◌++◌, cond, filter, Bool, true, false, Option, Some, None, ℕ, take, drop, ◌≤◌, length}
 use Rattle.std.specs.BTreeMap.{is_at}
 use Rattle.std.specs.Ordering.{is_eq, is_gt, is_lt}
 use Rattle.std.specs.declared.cmp.Ordering.{Ordering}
@@ -7,7 +7,7 @@ use Rattle.gql_ast.specs.declared.definition.DefinitionId.{DefinitionId}
 use Rattle.gql_reads.specs.declared.observation.Answer.{Answer}
 use Rattle.gql_facts.specs.declared.key.Key.{Key}
 use Rattle.gql_readers.specs.Changes.{AreNotes, Noted, Notes, noted_of}
-use Rattle.gql_readers.specs.Readers.{Reader, keys_in, with_reader}
+use Rattle.gql_readers.specs.Readers.{Reader, with_reader}
 use Rattle.gql_readers.specs.Indexes.{Reading}
 use Rattle.gql_readers.specs.Orders.{id_order, is_id, key_order}
 
@@ -125,18 +125,10 @@ abbrev pub NotesAt : Notes → Notes → Key → Noted → Type 0
 NotesAt old new key n = (k : Key)
     → noted_of new k ≡ cond (is_at (key_order key) k) (Some n) (noted_of old k)
 
--- these keys were observed
-abbrev pub AreSeen : List Key → List Answer → Type 0
-AreSeen keys answers = (k : Key) → Contains keys k → Contains (keys_in answers) k
+-- readers come, the last of which has observed this so far
+abbrev pub AreComing : Notes → List Reader → List Reader → DefinitionId → List Answer → Type 0
+AreComing notes coming going id answers = AreNotes notes (with_reader coming id answers) going
 
--- readers come, the last of which has observed this so far, these keys among it
-abbrev pub AreComing : Notes → List Key → List Reader → List Reader → DefinitionId
-    → List Answer → Type 0
-AreComing notes seen coming going id answers =
-    AreNotes notes (with_reader coming id answers) going × AreSeen seen answers
-
--- readers go, the last of which had observed this so far, these keys among it
-abbrev pub AreGoing : Notes → List Key → List Reader → List Reader → DefinitionId
-    → List Answer → Type 0
-AreGoing notes seen coming going id answers =
-    AreNotes notes coming (with_reader going id answers) × AreSeen seen answers
+-- readers go, the last of which had observed this so far
+abbrev pub AreGoing : Notes → List Reader → List Reader → DefinitionId → List Answer → Type 0
+AreGoing notes coming going id answers = AreNotes notes coming (with_reader going id answers)

@@ -10,9 +10,7 @@ use crate::differences::difference_of;
 use crate::ids::is_same;
 use crate::orders::OrderedKey;
 use gql_ast::{DefinitionId, Shared};
-use gql_facts::Key;
 use gql_reads::{Answer, Reading};
-use indexmap::IndexSet;
 use std::alloc::{AllocError, Global};
 use std::collections::BTreeMap;
 use std::marker::Model;
@@ -148,9 +146,7 @@ impl Changes {
             (noted_or answer.now (noted_of self.old answer.now.observation.key))
             answer.now id.now)) }
     {
-        let key = OrderedKey {
-            key: answer.get().observation.key.copy()?,
-        };
+        let key = OrderedKey::of(answer)?;
         if let Some(noted) = self.notes.get_mut(&key) {
             noted.come(answer, id)?;
             return Ok(());
@@ -171,9 +167,7 @@ impl Changes {
         ensures { OnOk result (NotesAt self.old self.new answer.now.observation.key (go_noted
             (noted_or answer.now (noted_of self.old answer.now.observation.key)) id.now)) }
     {
-        let key = OrderedKey {
-            key: answer.get().observation.key.copy()?,
-        };
+        let key = OrderedKey::of(answer)?;
         if let Some(noted) = self.notes.get_mut(&key) {
             noted.go(id)?;
             return Ok(());
@@ -184,41 +178,19 @@ impl Changes {
         Ok(())
     }
 
-    /// Notes that the definition that came last has observed this, too, unless it was noted of the
-    /// key already.
-    fn come_once(
-        &mut self,
-        alloc: Global,
-        id: &Shared<DefinitionId>,
-        answer: &Shared<Answer>,
-        seen: &mut IndexSet<Key>,
-    ) -> Result<(), AllocError>
-        ensures { OnOk result ((coming going : List Reader) (before : List AnAnswer)
-            → IsNew id.now coming → AreComing self.old seen.old.keys coming going id.now before
-            → AreComing self.new seen.new.keys coming going id.now (before ++ answer.now ∷ [])) }
-    {
-        if seen.contains(&answer.get().observation.key) {
-            return Ok(());
-        }
-        self.note_come(alloc, id, answer)?;
-        seen.insert(answer.get().observation.key.copy()?)?;
-        Ok(())
-    }
-
     /// Notes that the definition that came last has observed this, too.
     fn come_with(
         &mut self,
         alloc: Global,
         id: &Shared<DefinitionId>,
         answers: &[Shared<Answer>],
-        seen: &mut IndexSet<Key>,
     ) -> Result<(), AllocError>
         ensures { OnOk result ((coming going : List Reader) (before : List AnAnswer)
-            → IsNew id.now coming → AreComing self.old seen.old.keys coming going id.now before
-            → AreComing self.new seen.new.keys coming going id.now (before ++ answers.now)) }
+            → IsNew id.now coming → AreComing self.old coming going id.now before
+            → AreComing self.new coming going id.now (before ++ answers.now)) }
     {
         for answer in answers {
-            self.come_once(alloc, id, answer, seen)?;
+            self.note_come(alloc, id, answer)?;
         }
         Ok(())
     }
@@ -234,32 +206,10 @@ impl Changes {
             → IsNew id.now coming
             → AreNotes self.new (with_reader coming id.now (answers_in reading.now)) going) }
     {
-        let mut seen = IndexSet::new(alloc);
-        self.come_with(alloc, id, reading.own.record.get().answers(), &mut seen)?;
+        self.come_with(alloc, id, reading.own.record.get().answers())?;
         for part in reading.parts.as_slice() {
-            self.come_with(alloc, id, part.seen().get().answers(), &mut seen)?;
+            self.come_with(alloc, id, part.seen().get().answers())?;
         }
-        Ok(())
-    }
-
-    /// Notes that the definition that went last had observed this, too, unless it was noted of the
-    /// key already.
-    fn go_once(
-        &mut self,
-        alloc: Global,
-        id: &Shared<DefinitionId>,
-        answer: &Shared<Answer>,
-        seen: &mut IndexSet<Key>,
-    ) -> Result<(), AllocError>
-        ensures { OnOk result ((coming going : List Reader) (before : List AnAnswer)
-            → IsNew id.now going → AreGoing self.old seen.old.keys coming going id.now before
-            → AreGoing self.new seen.new.keys coming going id.now (before ++ answer.now ∷ [])) }
-    {
-        if seen.contains(&answer.get().observation.key) {
-            return Ok(());
-        }
-        self.note_go(alloc, id, answer)?;
-        seen.insert(answer.get().observation.key.copy()?)?;
         Ok(())
     }
 
@@ -269,14 +219,13 @@ impl Changes {
         alloc: Global,
         id: &Shared<DefinitionId>,
         answers: &[Shared<Answer>],
-        seen: &mut IndexSet<Key>,
     ) -> Result<(), AllocError>
         ensures { OnOk result ((coming going : List Reader) (before : List AnAnswer)
-            → IsNew id.now going → AreGoing self.old seen.old.keys coming going id.now before
-            → AreGoing self.new seen.new.keys coming going id.now (before ++ answers.now)) }
+            → IsNew id.now going → AreGoing self.old coming going id.now before
+            → AreGoing self.new coming going id.now (before ++ answers.now)) }
     {
         for answer in answers {
-            self.go_once(alloc, id, answer, seen)?;
+            self.note_go(alloc, id, answer)?;
         }
         Ok(())
     }
@@ -292,10 +241,9 @@ impl Changes {
             → IsNew id.now going
             → AreNotes self.new coming (with_reader going id.now (answers_in reading.now))) }
     {
-        let mut seen = IndexSet::new(alloc);
-        self.go_with(alloc, id, reading.own.record.get().answers(), &mut seen)?;
+        self.go_with(alloc, id, reading.own.record.get().answers())?;
         for part in reading.parts.as_slice() {
-            self.go_with(alloc, id, part.seen().get().answers(), &mut seen)?;
+            self.go_with(alloc, id, part.seen().get().answers())?;
         }
         Ok(())
     }
@@ -316,10 +264,8 @@ impl Changes {
             (with_reader new id.now (answers_in after.now))) }
     {
         let differ = difference_of(alloc, before, after)?;
-        let mut gone = IndexSet::new(alloc);
-        self.go_with(alloc, id, differ.went.as_slice(), &mut gone)?;
-        let mut seen = IndexSet::new(alloc);
-        self.come_with(alloc, id, differ.came.as_slice(), &mut seen)?;
+        self.go_with(alloc, id, differ.went.as_slice())?;
+        self.come_with(alloc, id, differ.came.as_slice())?;
         Ok(())
     }
 }

@@ -1,17 +1,21 @@
 //! Entries of the index.
 ghost use Rattle.std.specs.Prelude.{◌≡◌};
+ghost use Rattle.gql_readers.specs.Orders as orders;
 
-use gql_ast::{DefinitionId, Shared};
+use crate::orders::{OrderedKey, Sought};
+use crate::reader_list::ReaderList;
+use gql_ast::Shared;
 use gql_facts::Key;
 use gql_reads::Answer;
+use std::cmp::Ordering;
 use std::marker::Model;
 
-/// A key, the answer that it had, with the types that this leads to, and the definitions whose nodes
-/// read it, in file order. Lists share what identifies a definition, so that a reader takes a handle.
+/// A key, the answer that it had, with the types that this leads to, and the definitions whose
+/// nodes read it, in file order.
 pub struct Entry {
-    pub(crate) key: Key,
+    pub(crate) key: OrderedKey,
     pub(crate) answer: Shared<Answer>,
-    pub(crate) readers: Vec<Shared<DefinitionId>>,
+    pub(crate) readers: ReaderList,
 }
 
 impl Drop for Entry {
@@ -40,7 +44,7 @@ impl Model for Entry {
       of_answer.the_row.coded,
     ) };
 
-    ghost view = { λ e. record { key = e.key; answer = e.answer; readers = e.readers.items } };
+    ghost view = { λ e. record { key = e.key; answer = e.answer; readers = e.readers } };
 }
 
 impl Entry {
@@ -48,7 +52,14 @@ impl Entry {
     pub fn key(&self) -> &Key
         ensures { result.now ≡ self.now.key }
     {
-        &self.key
+        self.key.key()
+    }
+
+    /// The order of the key and of one that is looked for.
+    pub(crate) fn order_to(&self, sought: &Sought<'_>) -> Ordering
+        ensures { result ≡ orders.key_order self.now.key sought.now }
+    {
+        self.key.order_to(sought)
     }
 
     /// The answer that the key had, with the types that it leads to.
@@ -59,9 +70,9 @@ impl Entry {
     }
 
     /// The definitions that read the key.
-    pub fn readers(&self) -> &[Shared<DefinitionId>]
+    pub fn readers(&self) -> &ReaderList
         ensures { result.now ≡ self.now.readers }
     {
-        self.readers.as_slice()
+        &self.readers
     }
 }

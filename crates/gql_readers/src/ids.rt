@@ -31,7 +31,7 @@ pub fn are_same(ids: &[Shared<DefinitionId>], others: &[Shared<DefinitionId>]) -
 }
 
 /// Adds handles on names.
-fn add_handles(
+pub fn add_handles(
     ids: &[Shared<DefinitionId>],
     all: &mut Vec<Shared<DefinitionId>>,
 ) -> Result<(), AllocError>

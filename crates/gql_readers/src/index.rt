@@ -1,5 +1,5 @@
 //! The index.
-ghost use Rattle.std.specs.Prelude.{◌≡◌, ◌++◌, [], List, Contains, IfOk, IsTrue, OnOk};
+ghost use Rattle.std.specs.Prelude.{◌≡◌, ◌++◌, [], List, Contains, IfOk, IsTrue, OnOk, unwrap_or};
 ghost use Rattle.std.specs.Option.{option_copied};
 ghost use Rattle.gql_ast.specs.declared.definition.DefinitionId.{DefinitionId as Id};
 ghost use Rattle.gql_facts.specs.Worlds.{Facts};
@@ -13,9 +13,10 @@ ghost use Rattle.gql_readers.specs.Readers.{Reader, readers_of};
 
 use crate::changes::{Changes, Noted};
 use crate::entries::Entry;
-use crate::ids::{are_same, edit};
-use crate::orders::key_order;
-use gql_ast::{DefinitionId, Same, Shared};
+use crate::ids::are_same;
+use crate::orders::{OrderedKey, Sought};
+use crate::reader_list::ReaderList;
+use gql_ast::{Same, Shared};
 use gql_facts::Key;
 use gql_reads::Answer;
 use std::alloc::{AllocError, Global};
@@ -30,13 +31,13 @@ struct Parts<'e> {
 }
 
 /// Where a key stands among entries.
-fn split<'e>(entries: &'e [Shared<Entry>], key: &Key) -> Parts<'e>
+fn split<'e>(entries: &'e [Shared<Entry>], key: &Sought<'_>) -> Parts<'e>
     requires { AreEntriesInOrder entries.now }
     ensures before { result.before.now ≡ below orders.key_order key_of key.now entries.now }
     ensures here { result.here.now ≡ here orders.key_order key_of key.now entries.now }
     ensures after { result.after.now ≡ above orders.key_order key_of key.now entries.now }
 {
-    let found = entries.binary_search_by(|entry| key_order(entry.get().key(), key));
+    let found = entries.binary_search_by(|entry| entry.get().order_to(key));
     match found {
         Ok(place) => Parts {
             before: &entries[..place],
@@ -61,35 +62,36 @@ fn add_handles(entries: &[Shared<Entry>], all: &mut Vec<Shared<Entry>>) -> Resul
     Ok(())
 }
 
-/// The readers that were found for a key.
-fn readers_found(here: &[Shared<Entry>]) -> &[Shared<DefinitionId>]
+/// The readers that were found for a key, or these, which are none.
+fn readers_found<'e>(here: &'e [Shared<Entry>], none: &'e ReaderList) -> &'e ReaderList
+    requires { none.now ≡ [] }
     ensures { result.now ≡ merged.readers_found here.now }
 {
     match here.first() {
         Some(entry) => entry.get().readers(),
-        None => &[],
+        None => none,
     }
 }
 
 /// The readers of a key after a change.
 fn readers_after(
     alloc: Global,
-    ids: &[Shared<DefinitionId>],
+    readers: &ReaderList,
     noted: &Noted,
-) -> Result<Vec<Shared<DefinitionId>>, AllocError>
-    requires ids { AreInOrder ids.now }
+) -> Result<ReaderList, AllocError>
+    requires readers { AreInOrder readers.now }
     requires goes { AreInOrder noted.now.goes }
-    ensures { IfOk result (λ after. after.items ≡ merged.readers_after ids.now noted.now) }
+    ensures { IfOk result (λ after. after ≡ merged.readers_after readers.now noted.now) }
 {
     if noted.goes.is_empty() {
-        let all = edit(alloc, ids, noted.comes.as_slice(), true)?;
+        let all = readers.edited(alloc, noted.comes.as_slice(), true)?;
         return Ok(all);
     }
-    let left = edit(alloc, ids, noted.goes.as_slice(), false)?;
+    let left = readers.edited(alloc, noted.goes.as_slice(), false)?;
     if noted.comes.is_empty() {
         return Ok(left);
     }
-    let all = edit(alloc, left.as_slice(), noted.comes.as_slice(), true)?;
+    let all = left.edited(alloc, noted.comes.as_slice(), true)?;
     Ok(all)
 }
 
@@ -123,7 +125,7 @@ fn is_unchanged(here: &[Shared<Entry>], noted: &Noted) -> bool
 fn add_made(
     alloc: Global,
     here: &[Shared<Entry>],
-    key: Key,
+    key: OrderedKey,
     noted: &Noted,
     all: &mut Vec<Shared<Entry>>,
 ) -> Result<(), AllocError>
@@ -138,11 +140,13 @@ fn add_made(
         add_handles(here, all)?;
         return Ok(());
     }
-    let readers = readers_after(alloc, readers_found(here), noted)?;
+    let none = ReaderList::new(alloc);
+    let readers = readers_after(alloc, readers_found(here, &none), noted)?;
     if readers.is_empty() {
         return Ok(());
     }
     let answer = answer_after(here, noted)?;
+    let key = key.shared_with(&answer)?;
     all.push(Shared::new(
         alloc,
         Entry {
@@ -208,21 +212,21 @@ impl Index {
     pub fn find(&self, key: &Key) -> Option<&Entry>
         ensures { IsEntryOf self.now key.now (option_copied result) }
     {
-        let parts = split(self.entries.as_slice(), key);
+        let parts = split(self.entries.as_slice(), &Sought::of(key));
         match parts.here.first() {
             Some(entry) => Some(entry.get()),
             None => None,
         }
     }
 
-    /// The definitions whose nodes read a key, in file order. It takes no memory.
-    pub fn readers(&self, key: &Key) -> &[Shared<DefinitionId>]
+    /// The definitions whose nodes read a key, in file order, if there are any. It takes no memory.
+    pub fn readers(&self, key: &Key) -> Option<&ReaderList>
         ensures { (readers : List Reader) → IsIndexOf self.now readers
-            → result.now ≡ readers_of key.now readers }
+            → unwrap_or (option_copied result) [] ≡ readers_of key.now readers }
     {
         match self.find(key) {
-            Some(entry) => entry.readers(),
-            None => &[],
+            Some(entry) => Some(entry.readers()),
+            None => None,
         }
     }
 
@@ -232,12 +236,13 @@ impl Index {
         ensures { IfOk result (λ index. (facts : Facts) (old going coming new : List Reader)
             → IsChange facts self.now changes old going coming new → IsIndexOf index new) }
     {
-        let mut all = Vec::new(alloc);
+        let room = self.entries.len().saturating_add(changes.notes.len());
+        let mut all = Vec::with_capacity(alloc, room)?;
         let mut rest = self.entries.as_slice();
         for (key, noted) in changes.notes {
-            let parts = split(rest, &key.key);
+            let parts = split(rest, &key.sought());
             add_handles(parts.before, &mut all)?;
-            add_made(alloc, parts.here, key.key, &noted, &mut all)?;
+            add_made(alloc, parts.here, key, &noted, &mut all)?;
             rest = parts.after;
         }
         add_handles(rest, &mut all)?;

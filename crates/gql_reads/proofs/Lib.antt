@@ -1,4 +1,5 @@
 pub mod Held
+pub mod KnownTypes
 pub mod ObservedKeys
 pub mod Answered
 pub mod Led

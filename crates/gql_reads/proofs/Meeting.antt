@@ -16,6 +16,7 @@ use Rattle.gql_facts.specs.ListMembers.{Contains-nil, Contains-cases, Contains-m
 use Rattle.gql_facts.specs.Members.{Lists}
 use Rattle.gql_facts.specs.Keys.{is_key, is_key_decides}
 use Rattle.gql_facts.specs.Worlds.{Facts}
+use Rattle.gql_reads.specs.Leading.{AreTypes}
 use Rattle.gql_reads.specs.Own.{Own, tree_of}
 use Rattle.gql_reads.specs.Observations.{Hold, keys_of, observed_in}
 use Rattle.gql_reads.specs.Reaching.{AreMet, IsNamed, IsPartOf, Meets}
@@ -23,6 +24,7 @@ use Rattle.gql_reads.specs.Readings.{members_of, name_of}
 use Rattle.gql_reads.specs.Records.{IsCertified, IsRecord, IsTold, Kept}
 use Rattle.gql_reads.specs.Tables.{AllHold, Entries, Holds, IsAnswer, Keeps, answer_at, entry_at}
 use Rattle.gql_reads.specs.declared.observation.Answer.{Answer}
+use Rattle.gql_reads.specs.declared.observation.TypeAnswers.{TypeAnswers}
 use Rattle.gql_reads.proofs.Members.{Contains-map_from}
 
 fragment_same : (f g : FragmentFact) → fact.Fragment f ≡ fact.Fragment g → f ≡ g
@@ -33,7 +35,7 @@ name_there names n e = Contains-from_any (λ x y. (bytes_eq-Decides x y).0) n na
 
 -- ---- entries
 
-module _ (es new : Entries) (n : List ℕ) (p : Kept) (here : entry_at new n ≡ Some p) (others : (m : List ℕ) → bytes_eq n m ≡ false → entry_at new m ≡ entry_at es m) (answers : new.answers ≡ es.answers) where
+module _ (es new : Entries) (n : List ℕ) (p : Kept) (here : entry_at new n ≡ Some p) (others : (m : List ℕ) → bytes_eq n m ≡ false → entry_at new m ≡ entry_at es m) (answers : new.answers ≡ es.answers) (types : new.types ≡ es.types) where
   pub added_holds : (F : Facts) → Holds F n p → AllHold F es → AllHold F new
   added_holds F h all = record {
     each = λ m k c. elim (either (bytes_eq n m)) [
@@ -44,6 +46,7 @@ module _ (es new : Entries) (n : List ℕ) (p : Kept) (here : entry_at new n ≡
       | inr f ↦ all.each m k (sym (others m f) ∙ c)
     ];
     answers = λ k a c. all.answers k a (subst (λ l. lookup (is_key k) l ≡ Some a) answers c);
+    types = subst (λ (l : List (List ℕ × TypeAnswers)). AreTypes F l) (sym types) all.types;
   }
 
   pub added_keeps : entry_at es n ≡ None → Keeps es new
@@ -54,8 +57,8 @@ module _ (es new : Entries) (n : List ℕ) (p : Kept) (here : entry_at new n ≡
 
 -- the answer to one key more
 pub answer_added : (F : Facts) (es new : Entries) (k : Key) (a : Answer) → answer_at new k ≡ Some a → ((j : Key) → is_key k j ≡ false → answer_at new j ≡ answer_at es j)
-    → new.parts ≡ es.parts → IsAnswer F k a → AllHold F es → AllHold F new
-answer_added F es new k a here others parts is all = record {
+    → new.parts ≡ es.parts → new.types ≡ es.types → IsAnswer F k a → AllHold F es → AllHold F new
+answer_added F es new k a here others parts types is all = record {
   each = λ n q c. all.each n q (subst (λ l. lookup (bytes_eq n) l ≡ Some q) parts c);
   answers = λ j b c. elim (either (is_key k j)) [
     | inl t ↦
@@ -64,7 +67,12 @@ answer_added F es new k a here others parts is all = record {
         subst (λ i. IsAnswer F i b) s (subst (λ x. IsAnswer F k x) e is)
     | inr f ↦ all.answers j b (sym (others j f) ∙ c)
   ];
+  types = subst (λ (l : List (List ℕ × TypeAnswers)). AreTypes F l) (sym types) all.types;
 }
+
+-- what is known of types is other than before
+pub types_known : (F : Facts) (es : Entries) (types : List (List ℕ × TypeAnswers)) → AreTypes F types → AllHold F es → AllHold F (record { parts = es.parts; answers = es.answers; types = types })
+types_known F es types are all = record { each = all.each; answers = all.answers; types = are }
 
 -- where the parts are the same, so are the entries
 pub parts_keep : (es new : Entries) → new.parts ≡ es.parts → Keeps es new

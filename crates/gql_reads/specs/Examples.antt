@@ -1,5 +1,5 @@
 -- Worked examples of what an answer observed.
-use Rattle.std.specs.Prelude.{◌≡◌, List, [], ◌∷◌, codes, refl}
+use Rattle.std.specs.Prelude.{◌≡◌, [], ◌∷◌, codes, refl}
 use Rattle.gql_facts.specs.declared.fact.Fact.TheVariants as fact
 use Rattle.gql_facts.specs.declared.key.Key.TheVariants as key
 use Rattle.gql_types.specs.declared.kind.TypeKind.TheVariants as kind

@@ -1,11 +1,11 @@
 -- The types that an answer leads to.
-use Rattle.std.specs.Prelude.{ℕ, List, map, Contains}
+use Rattle.std.specs.Prelude.{◌≡◌, ℕ, List, map, Contains}
 use Rattle.gql_facts.specs.declared.fact.Fact.{Fact}
 use Rattle.gql_facts.specs.declared.key.Key.TheVariants as key
 use Rattle.gql_facts.specs.Members.{Lists}
 use Rattle.gql_facts.specs.Reads.{types_in}
 use Rattle.gql_facts.specs.Worlds.{Facts}
-use Rattle.gql_reads.specs.Observations.{Hold, about_all}
+use Rattle.gql_reads.specs.Observations.{Hold, about, about_all}
 use Rattle.gql_reads.specs.declared.observation.Answer.{Answer}
 use Rattle.gql_reads.specs.declared.observation.TypeAnswers.{TypeAnswers}
 
@@ -28,3 +28,7 @@ IsLed a = (facts : Facts) → Hold facts (about_all a.types)
 -- so it is for each of these answers
 abbrev pub AreLed : List Answer → Type 0
 AreLed answers = (a : Answer) → Contains answers a → IsLed a
+
+-- what is known of types, each under its name, holds
+pub record AreTypes (facts : Facts) (types : List (List ℕ × TypeAnswers)) : Type 0 where
+  pub each : (e : List ℕ × TypeAnswers) → Contains types e → (e.1.name ≡ e.0) × Hold facts (about e.1)

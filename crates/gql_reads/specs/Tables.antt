@@ -1,4 +1,5 @@
--- A table of what was observed of fragments, each under its name, and of answers, each under its key.
+-- A table of what was observed of fragments and of types, each under its name, and of answers, each
+-- under its key.
 use Rattle.std.specs.Prelude.{◌≡◌, ℕ, List, [], Option, Some, bytes_eq}
 use Rattle.std.specs.Map.{lookup}
 use Rattle.gql_facts.specs.Keys.{is_key}
@@ -6,19 +7,22 @@ use Rattle.gql_facts.specs.declared.fact.Fact.TheVariants as fact
 use Rattle.gql_facts.specs.declared.key.Key.{Key}
 use Rattle.gql_facts.specs.declared.key.Key.TheVariants as key
 use Rattle.gql_facts.specs.Worlds.{Facts}
-use Rattle.gql_reads.specs.Leading.{IsLed}
+use Rattle.gql_reads.specs.Leading.{AreTypes, IsLed}
 use Rattle.gql_reads.specs.Observations.{Hold, observed, observed_in}
 use Rattle.gql_reads.specs.Records.{Kept}
 use Rattle.gql_reads.specs.declared.observation.Answer.{Answer}
+use Rattle.gql_reads.specs.declared.observation.TypeAnswers.{TypeAnswers}
 
--- the entries: parts of fragments, each under a name, and answers, each under a key
+-- the entries: parts of fragments, each under a name, answers, each under a key, and what is known of
+-- types, each under a name
 pub record Entries : Type 0 where
   pub parts : List (List ℕ × Kept)
   pub answers : List (Key × Answer)
+  pub types : List (List ℕ × TypeAnswers)
 
 -- no entries
 abbrev pub no_entries : Entries
-no_entries = record { parts = []; answers = [] }
+no_entries = record { parts = []; answers = []; types = [] }
 
 -- the entry of a name
 abbrev pub entry_at : Entries → List ℕ → Option Kept
@@ -43,6 +47,7 @@ pub record IsAnswer (facts : Facts) (k : Key) (a : Answer) : Type 0 where
 pub record AllHold (facts : Facts) (entries : Entries) : Type 0 where
   pub each : (n : List ℕ) (k : Kept) → entry_at entries n ≡ Some k → Holds facts n k
   pub answers : (k : Key) (a : Answer) → answer_at entries k ≡ Some a → IsAnswer facts k a
+  pub types : AreTypes facts entries.types
 
 -- each entry is still there, as it was
 abbrev pub Keeps : Entries → Entries → Type 0

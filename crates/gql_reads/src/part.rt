@@ -6,6 +6,7 @@ ghost use Rattle.gql_reads.specs.Records.{IsCertified, IsRecord};
 ghost use Rattle.gql_reads.specs.Tables.{AllHold};
 
 use crate::record::{Record, record_of};
+use crate::retest::KeptParts;
 use crate::table::ReadTable;
 use gql_ast::{Shared, Text, Tree};
 use gql_facts::{FragmentFact, World};
@@ -92,9 +93,10 @@ impl Part {
 }
 
 /// Walks a fragment alone.
-pub fn walk_fragment<W: World>(
+pub fn walk_fragment<W: World, K: KeptParts>(
     alloc: Global,
     world: &mut W,
+    kept: &K,
     fragment: &FragmentFact,
     table: &mut ReadTable,
 ) -> Result<Part, AllocError>
@@ -109,7 +111,7 @@ pub fn walk_fragment<W: World>(
         IsRecord (W.facts world.old) (tree_of fragment.now) part.seen) }
 {
     let tree = Tree::Fragment(fragment.fragment.clone()?);
-    let seen = record_of(alloc, world, &tree, table)?;
+    let seen = record_of(alloc, world, kept, &tree, table)?;
     let seen = Shared::new(alloc, seen)?;
     let fragment = fragment.copy()?;
     let held = Shared::new(alloc, Held { fragment, seen })?;

@@ -232,7 +232,7 @@ fn own_part<W: World, K: KeptParts>(
         return Ok(None);
     };
     let fragment = FragmentFact {
-        file: definition.file.copy(),
+        file: definition.file.copy()?,
         fragment: fragment.clone()?,
     };
     let is_named = is_named(alloc, world, &fragment)?;
@@ -268,7 +268,7 @@ fn own_of<W: World, K: KeptParts>(
             })
         }
         None => {
-            let record = record_of(alloc, world, &definition.tree, table)?;
+            let record = record_of(alloc, world, kept, &definition.tree, table)?;
             let record = Shared::new(alloc, record)?;
             Ok(OwnReads { record, part: None })
         }
@@ -278,7 +278,7 @@ fn own_of<W: World, K: KeptParts>(
 /// What was observed of a definition: a handle of its own record, and a part of each fragment that
 /// it reaches. A fragment that the table has is not walked. Of each other, a part that is kept is
 /// added to the table if what was observed then still holds; else the fragment is walked, once.
-/// Answers that the table has are shared. Whether it succeeds or an allocation fails, no entry is lost,
+/// Answers that the table has, or that are kept and have not changed, are shared. Whether it succeeds or an allocation fails, no entry is lost,
 /// and all entries hold.
 pub fn reads_of<W: World, K: KeptParts>(
     alloc: Global,

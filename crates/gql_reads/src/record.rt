@@ -7,6 +7,7 @@ ghost use Rattle.gql_reads.specs.Tables.{AllHold, Keeps};
 ghost use Rattle.gql_facts.specs.Members.{Lists};
 
 use crate::observation::Answer;
+use crate::retest::KeptParts;
 use crate::scan::scan_tree;
 use crate::table::ReadTable;
 use gql_ast::{Shared, Tree};
@@ -78,9 +79,10 @@ fn add_spread(fact: &Fact, spreads: &mut Vec<FragmentFact>) -> Result<(), AllocE
 }
 
 /// These answers as a record, each with the types that it leads to.
-fn record_from<W: World>(
+fn record_from<W: World, K: KeptParts>(
     alloc: Global,
     world: &mut W,
+    kept: &K,
     answers: IndexMap<Key, Fact>,
     table: &mut ReadTable,
 ) -> Result<Record, AllocError>
@@ -97,7 +99,7 @@ fn record_from<W: World>(
     let mut spreads = Vec::new(alloc);
     for (key, fact) in answers {
         add_spread(&fact, &mut spreads)?;
-        found.push(table.answer(alloc, world, key, fact)?)?;
+        found.push(table.answer(alloc, world, kept, key, fact)?)?;
     }
     spreads.shrink_to_fit();
     Ok(Record {
@@ -107,10 +109,11 @@ fn record_from<W: World>(
 }
 
 /// What a world answers to exactly the own reads of a definition or fragment. Answers that the table
-/// has are shared.
-pub fn record_of<W: World>(
+/// has, or that are kept and have not changed, are shared.
+pub fn record_of<W: World, K: KeptParts>(
     alloc: Global,
     world: &mut W,
+    kept: &K,
     tree: &Tree,
     table: &mut ReadTable,
 ) -> Result<Record, AllocError>
@@ -124,6 +127,6 @@ pub fn record_of<W: World>(
 {
     let mut answers = IndexMap::new(alloc);
     scan_tree(alloc, world, tree, &mut answers)?;
-    let seen = record_from(alloc, world, answers, table)?;
+    let seen = record_from(alloc, world, kept, answers, table)?;
     Ok(seen)
 }

@@ -1,30 +1,42 @@
-//! Parts that were made before: one is taken again if all that was observed of its fragment alone
-//! still holds.
+//! Parts and answers that were made before: a part is taken again if all that was observed of its
+//! fragment alone still holds, and an answer if it is what the world answers now.
 ghost use Rattle.std.specs.Prelude.{◌≡◌, ◌↔◌, IfOk, IfSome, IsTrue, true};
+ghost use Rattle.std.specs.Option.{option_copied};
+ghost use Rattle.gql_reads.specs.Leading.{IsLed};
 ghost use Rattle.gql_reads.specs.Own.{tree_of};
 ghost use Rattle.gql_reads.specs.Records.{IsRecord, Kept};
 ghost use Rattle.gql_reads.specs.Tables.{AllHold};
 
 use crate::holds::answers_hold;
+use crate::observation::Answer;
 use crate::part::{Part, walk_fragment};
 use crate::table::ReadTable;
-use gql_ast::Same;
-use gql_facts::{FragmentFact, World};
+use gql_ast::{Same, Shared};
+use gql_facts::{FragmentFact, Key, World};
 use std::alloc::{AllocError, Global};
 
-/// What has parts that were made before.
+/// What has parts and answers that were made before.
 pub trait KeptParts {
     /// A part that was made of this fragment, if there is one. What was observed then may have
     /// changed.
     fn part(&self, fragment: &FragmentFact) -> Option<&Part>;
+
+    /// An answer that a key had, with exactly the types that it leads to, if there is one. It may
+    /// have changed, or be that of another key.
+    fn answer(&self, key: &Key) -> Option<&Shared<Answer>>
+        ensures { IfSome (option_copied result) (λ a. IsLed a) };
 }
 
-/// No parts.
+/// No parts and no answers.
 #[derive(Drop)]
 pub struct NoParts {}
 
 impl KeptParts for NoParts {
     fn part(&self, _fragment: &FragmentFact) -> Option<&Part> {
+        None
+    }
+
+    fn answer(&self, _key: &Key) -> Option<&Shared<Answer>> {
         None
     }
 }
@@ -97,6 +109,6 @@ pub fn part_for<W: World, K: KeptParts>(
 {
     match older_part(alloc, world, kept, fragment)? {
         Some(part) => Ok(part),
-        None => walk_fragment(alloc, world, fragment, table),
+        None => walk_fragment(alloc, world, kept, fragment, table),
     }
 }

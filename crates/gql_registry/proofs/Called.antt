@@ -14,13 +14,13 @@ use Rattle.gql_ast.specs.declared.text.Name.{Name}
 use Rattle.gql_steps.specs.Requests.{Executes, Response, request_of}
 use Rattle.gql_facts.specs.ListMembers.{Contains-nil, Contains-here, Contains-cases, Contains-flat_map, Contains-flat_map_from, found_in}
 use Rattle.gql_registry.specs.Chosen.{chosen, operations, named_operations, operation_in, operation_by, named_in, named_of, named_by, only}
-use Rattle.gql_registry.specs.declared.operations.NamedOperation.{NamedOperation}
+use Rattle.gql_registry.specs.Chosen.{NamedOperation}
 use Rattle.gql_serving.specs.Laws.{SomeAnswer, NoSubscriptions, HasNoFault}
 use Rattle.gql_registry.specs.Calling.{IsOver, IsOutcomeOf, TellsRun}
 use Rattle.gql_registry.specs.Calls.{AreAgainst, Answers, IsResponse, StandsAgainst, of_schema, of_documents, not_run, too_large, served, memory}
 use Rattle.gql_registry.specs.Laws.{AllAreRun}
 use Rattle.gql_registry.specs.Prepared.{outcome_of, prepared_of, ran_of}
-use Rattle.gql_registry.specs.declared.registry.Prepared.{Prepared}
+use Rattle.gql_registry.specs.declared.runs.Prepared.{Prepared}
 use Rattle.gql_registry.specs.Report.{IsSound}
 use Rattle.gql_registry.specs.Report as report
 use Rattle.gql_registry.specs.Runs.{is_run}

@@ -20,3 +20,6 @@ pub mod SameFragments
 pub mod SchemaTouched
 pub mod Restored
 pub mod UndoneEdits
+pub mod ChosenOperations
+pub mod KeptOperations
+pub mod OperationNames

@@ -11,7 +11,7 @@ use Rattle.gql_ast.specs.declared.fault.FileSide.TheVariants.{Documents}
 use Rattle.gql_ast.specs.declared.files.Files.{Files}
 use Rattle.gql_facts.specs.Facts.{fragments}
 use Rattle.gql_facts.specs.FileFragments.{fragments_in}
-use Rattle.gql_registry.specs.EditPlans.{IsIndexAfterSchema, IsIndexBefore, KeepsFragments}
+use Rattle.gql_registry.specs.EditPlans.{IsIndexAfterSchema, KeepsFragments}
 use Rattle.gql_registry.specs.Indexed.{IsIndexOf as IsOperationIndex}
 use Rattle.gql_registry.specs.Keeping.{IsKnownOf}
 use Rattle.gql_registry.specs.Sides.{with_file}
@@ -69,9 +69,3 @@ kept_index known before after is e = record {
   fragments = is.index.fragments ∙ ap fragments e;
   operations = subst (λ documents. IsOperationIndex documents known.index.operations) e is.index.operations;
 }
-
--- what is known before an edit has the fragments of the files after it, if these are said to be the same
-pub index_before : (known : Option Known) (are_same : Bool) (before after : Files) → IfSome known (IsKnownOf before) → (IsTrue are_same → KeepsFragments before after)
-    → IfSome known (IsIndexBefore are_same after)
-index_before None are_same before after is keeps = tt
-index_before (Some known) are_same before after is keeps = λ same. is.index.fragments ∙ keeps same

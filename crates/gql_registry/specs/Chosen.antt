@@ -6,7 +6,11 @@ use Rattle.gql_ast.specs.declared.definition.Document.{Document}
 use Rattle.gql_ast.specs.declared.definition.Tree.{Tree}
 use Rattle.gql_ast.specs.declared.definition.Tree.TheVariants as tree
 use Rattle.gql_ast.specs.declared.text.Name.{Name}
-use Rattle.gql_registry.specs.declared.operations.NamedOperation.{NamedOperation}
+
+-- an operation that has a name
+pub record NamedOperation : Type 0 where
+  pub name : List ℕ
+  pub definition : Definition
 
 -- a definition with this tree, if it is an operation
 abbrev pub operation_by : Definition → Tree → List Definition

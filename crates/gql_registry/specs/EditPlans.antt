@@ -1,5 +1,5 @@
 -- Helper definitions for private contracts: what an edit makes of the files, before it is committed.
-use Rattle.std.specs.Prelude.{◌≡◌, ◌⊎◌, ℕ, Bool, List, Option, Some, None, Err, length, IfSome, IsTrue}
+use Rattle.std.specs.Prelude.{◌≡◌, ◌⊎◌, ℕ, List, Option, Some, None, Err, length, IfSome, IsTrue}
 use Rattle.gql_ast.specs.declared.definition.Document.{Document}
 use Rattle.gql_ast.specs.declared.fault.Fault.{Fault}
 use Rattle.gql_ast.specs.declared.files.Files.{Files}
@@ -74,11 +74,6 @@ IsIndexAfterSchema known index = (before after : Files) → IfSome known (IsKnow
 -- the document files have the same fragments before and after an edit, at the same places
 abbrev pub KeepsFragments : Files → Files → Type 0
 KeepsFragments before after = fragments before.documents ≡ fragments after.documents
-
--- what is known has the fragments of these files, if they are said to be the same
-abbrev pub IsIndexBefore : Bool → Files → Known → Type 0
-IsIndexBefore are_same files known =
-    IsTrue are_same → known.index.fragments.all ≡ fragments files.documents
 
 -- these files are known, and the document file brings only new names to them
 abbrev pub BringsToKnown : Option Known → List (List ℕ × Document) → List ℕ → Document → Type 0

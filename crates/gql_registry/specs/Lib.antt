@@ -18,3 +18,5 @@ pub mod Checks
 pub mod Laws
 pub mod EditPlans
 pub mod Examining
+pub mod OperationLaws
+pub mod OperationOrders

@@ -3,9 +3,9 @@ use Rattle.std.specs.Prelude.{ℕ, List, map, Result, Ok, Err}
 use Rattle.gql_registry.specs.Calls.{CallOutcome}
 use Rattle.gql_registry.specs.declared.calling.Ran.{Ran}
 use Rattle.gql_registry.specs.declared.refusal.Refusal.{Refusal}
-use Rattle.gql_registry.specs.declared.registry.Prepared.{Prepared}
+use Rattle.gql_registry.specs.declared.runs.Prepared.{Prepared}
 use Rattle.gql_registry.specs.declared.registry.Registry.{Registry}
-use Rattle.gql_registry.specs.declared.registry.Reply.{Reply}
+use Rattle.gql_registry.specs.declared.runs.Reply.{Reply}
 use Rattle.gql_stored.specs.Effects.{Effect}
 use Rattle.gql_stored.specs.Rooms as rooms
 use Rattle.gql_stored.specs.Rooms.{effect_of}

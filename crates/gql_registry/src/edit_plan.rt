@@ -5,7 +5,7 @@ ghost use Rattle.gql_ast.specs.FileMaps.{file_named};
 ghost use Rattle.gql_ast.specs.declared.fault.FileSide.TheVariants as on;
 ghost use Rattle.gql_facts.specs.FileFragments.{fragments_in};
 ghost use Rattle.gql_registry.specs.EditPlans.{IsEditPlanTo, IsSchemaEdit, IsSchemaTouched, IsSideAfterDocuments, IsSideBeforeEdit};
-ghost use Rattle.gql_registry.specs.EditPlans.{IsIndexAfterSchema, IsIndexBefore};
+ghost use Rattle.gql_registry.specs.EditPlans.{IsIndexAfterSchema};
 ghost use Rattle.gql_registry.specs.EditPlans.{BringsToKnown, IsToldToKeepNames, KeepsFragments};
 ghost use Rattle.gql_registry.specs.Keeping.{IsIndexOf, IsKnownOf, IsSideOf};
 ghost use Rattle.gql_registry.specs.Sides as spec;
@@ -103,6 +103,16 @@ fn document_in(shared: &Option<Shared<Document>>) -> Option<&Document>
     }
 }
 
+/// The file of a name, if there is one.
+fn file_in<'f>(files: &'f FileMap<Shared<Document>>, name: &FileName) -> Option<&'f Document>
+    ensures { option_copied result ≡ file_named files.now name.now }
+{
+    match files.get(name) {
+        Some(document) => Some(document.get()),
+        None => None,
+    }
+}
+
 /// Puts a file in place of any of its name, or removes the file of that name if there is none to
 /// put.
 fn edit_file(
@@ -113,7 +123,7 @@ fn edit_file(
     ensures { OnOk result (files.new ≡ edited_files files.old name.now document.now) }
 {
     match document {
-        Some(document) => files.put(name.copy(), document.clone()?),
+        Some(document) => files.put(name.copy()?, document.clone()?),
         None => {
             files.remove(name);
             Ok(())
@@ -189,21 +199,29 @@ fn keeps_fragments(
     }
 }
 
-/// The index of the document files after an edit of one of them, if the index before it is known.
-/// `are_same` says whether all fragments are as before the edit.
+/// The index of the document files after an edit of the file of a name, if the index before it is
+/// known. `put` is the file that was put, or none if the file was removed. `are_same` says whether all
+/// fragments are as before the edit.
 fn edited_index(
     alloc: Global,
-    files: &Files,
+    before: &Files,
+    after: &Files,
     known: &Option<Known>,
+    name: &FileName,
+    put: Option<&Document>,
     are_same: bool,
 ) -> Result<Option<DocumentIndex>, AllocError>
-    requires { IfSome known.now (IsIndexBefore are_same files.now) }
-    ensures { IfOk result (λ index. IfSome index (IsIndexOf files.now)) }
+    requires known { IfSome known.now (IsKnownOf before.now) }
+    requires files { after.now.documents
+        ≡ edited_files before.now.documents name.now (option_copied put) }
+    requires same { IsTrue are_same → KeepsFragments before.now after.now }
+    ensures { IfOk result (λ index. IfSome index (IsIndexOf after.now)) }
 {
     let Some(known) = known else {
         return Ok(None);
     };
-    let index = index_after_edit(alloc, files, &known.index, are_same)?;
+    let old = file_in(&before.documents, name);
+    let index = index_after_edit(alloc, after, &known.index, name, old, put, are_same)?;
     Ok(Some(index))
 }
 
@@ -251,7 +269,7 @@ fn brings_to_known(
     let Some(known) = known else {
         return Ok(false);
     };
-    let (operations, fragments) = (&known.index.operations.named, &known.index.fragments);
+    let (operations, fragments) = (&known.index.operations, &known.index.fragments);
     let brings = brings_new_names(alloc, files, name, document, operations, fragments)?;
     Ok(brings)
 }
@@ -332,7 +350,8 @@ fn document_plan(
     let shared = shared_document(alloc, document)?;
     edit_file(&mut changed.documents, &name, &shared)?;
     let schema = kept_schema(known)?;
-    let index = edited_index(alloc, &changed, known, are_same)?;
+    let after = document_in(&shared);
+    let index = edited_index(alloc, files, &changed, known, &name, after, are_same)?;
     Ok(EditPlan {
         files: changed,
         touched,

@@ -106,7 +106,7 @@ fn put_file(
     if !has_room(files_on(files, side), name, profile.limits.files) {
         return Err(Refusal::FilesFull);
     }
-    put_on(alloc, files, side, name.copy(), document)?;
+    put_on(alloc, files, side, name.copy()?, document)?;
     Ok(())
 }
 

@@ -1,163 +1,158 @@
 //! The operations of document files, and the one that a call asks for.
-
-ghost use Rattle.std.specs.Prelude.{◌≡◌, ◌++◌, ℕ, List, Some, IfOk, OnOk, flat_map};
+ghost use Rattle.std.specs.Prelude.{◌≡◌, ◌↔◌, ℕ, List, [], Contains, Some, None, IfOk, IfSome, IsTrue};
 ghost use Rattle.std.specs.Option.{option_copied};
+ghost use Rattle.gql_ast.specs.FileMaps.{file_named};
 ghost use Rattle.gql_ast.specs.declared.definition.Document.{Document as TheDocument};
 ghost use Rattle.gql_registry.specs.Chosen as spec;
-ghost use Rattle.gql_registry.specs.Indexed.{AddsToFirstTwo, IsIndexOf};
+ghost use Rattle.gql_registry.specs.Indexed.{AreOperationsIn, IsIndexOf, IsWith, kept_as, names_in, text_in};
+ghost use Rattle.gql_types.specs.Outlines.{edited_files};
 
-use gql_ast::{Definition, Document, FileMap, Shared, Text, Tree};
-use gql_types::{HasName, Named};
+use crate::kept_operation::KeptOperation;
+use crate::operation_order::OfName;
+use gql_ast::{Definition, Document, FileMap, FileName, Name, Shared, Text, Tree};
+use gql_chunks::Chunks;
+use gql_verdict::NameSet;
 use std::alloc::{AllocError, Global};
 
-/// An operation that has a name.
-pub struct NamedOperation {
-    pub name: Text,
-    pub definition: Definition,
-}
-
-impl Drop for NamedOperation {
-    fn drop(self) {
-        let NamedOperation {
-            name: _,
-            definition: _,
-        } = self;
-    }
-}
-
-impl HasName for NamedOperation {
-    ghost name = { λ o. o.name };
-
-    fn name(&self) -> &str {
-        self.name.as_str()
-    }
-}
-
-/// The operations of all document files, in the order of the files' names. Of those of one name,
-/// the first counts. A copy shares those with names.
+/// The operations of all document files, by their names, and those of one name in the order of the
+/// files' names. Of those of one name, the first counts. A copy shares them, and so do the operations
+/// after an edit of one file.
 pub struct Operations {
-    /// Those that have a name.
-    pub named: Named<NamedOperation>,
-    /// The only operation, if there is one only.
-    only: Option<Definition>,
+    all: Chunks<KeptOperation>,
 }
 
 impl Drop for Operations {
     fn drop(self) {
-        let Operations { named: _, only: _ } = self;
+        let Operations { all: _ } = self;
     }
 }
 
-/// Adds a definition that is an operation: to those with names if it has one, and to the first two of
-/// all.
-fn add_operation(
+/// A copy of a name, if there is one.
+fn name_copy(name: &Option<Name>) -> Result<Option<Text>, AllocError>
+    ensures { IfOk result (λ text. text ≡ text_in name.now) }
+{
+    match name {
+        Some(name) => Ok(Some(name.text.copy()?)),
+        None => Ok(None),
+    }
+}
+
+/// A definition of a file as an operation that is kept, if it is one.
+fn kept_operation(
+    file: &FileName,
+    number: usize,
     definition: &Definition,
-    named: &mut Vec<NamedOperation>,
-    first_two: &mut Vec<Definition>,
-) -> Result<(), AllocError>
-    ensures named { OnOk result (named.new.items
-        ≡ named.old.items ++ spec.named_in definition.now) }
-    ensures first_two { OnOk result (AddsToFirstTwo (spec.operation_in definition.now)
-        first_two.old.items first_two.new.items) }
+) -> Result<Option<KeptOperation>, AllocError>
+    ensures { IfOk result (λ kept. kept ≡ kept_as file.now number definition.now) }
 {
-    if let Tree::Operation(operation) = &definition.tree {
-        if let Some(name) = &operation.get().name {
-            named.push(NamedOperation {
-                name: name.text.copy()?,
+    match &definition.tree {
+        Tree::Operation(operation) => {
+            let name = name_copy(&operation.get().name)?;
+            Ok(Some(KeptOperation {
+                name,
+                file: file.copy()?,
+                number,
                 definition: definition.copy()?,
-            })?;
+            }))
         }
-        if first_two.len() < 2 {
-            first_two.push(definition.copy()?)?;
-        }
-    }
-    Ok(())
-}
-
-/// Adds the operations of a file: to those with names, and to the first two of all.
-fn add_operations(
-    definitions: &[Definition],
-    named: &mut Vec<NamedOperation>,
-    first_two: &mut Vec<Definition>,
-) -> Result<(), AllocError>
-    ensures named { OnOk result (named.new.items
-        ≡ named.old.items ++ flat_map spec.named_in definitions.now) }
-    ensures first_two { OnOk result (AddsToFirstTwo (flat_map spec.operation_in definitions.now)
-        first_two.old.items first_two.new.items) }
-{
-    for definition in definitions {
-        add_operation(definition, named, first_two)?;
-    }
-    Ok(())
-}
-
-/// The only one of these, if there is one only.
-fn only_of(definitions: Vec<Definition>) -> Option<Definition>
-    ensures { result ≡ spec.only definitions.items }
-{
-    let mut definitions = definitions;
-    if definitions.len() == 1 {
-        definitions.pop()
-    } else {
-        None
+        _ => Ok(None),
     }
 }
 
-/// These operations, in their order. They share the look-up of those before, if these have the same
-/// names.
-fn named_like(
+/// These operations, with one more if there is one.
+fn with_operation(
     alloc: Global,
-    named: Vec<NamedOperation>,
-    before: Option<&Operations>,
-) -> Result<Named<NamedOperation>, AllocError>
-    ensures { IfOk result (λ all. all ≡ named.items) }
+    operations: Chunks<KeptOperation>,
+    operation: Option<KeptOperation>,
+) -> Result<Chunks<KeptOperation>, AllocError>
+    ensures { IfOk result (IsWith operations operation) }
 {
-    match before {
-        Some(before) => Named::like(alloc, named, &before.named),
-        None => Named::new(alloc, named),
+    match operation {
+        Some(operation) => {
+            let none = Chunks::new(alloc);
+            let one = Chunks::one(alloc, operation)?;
+            operations.edited(alloc, &none, &one)
+        }
+        None => Ok(operations),
     }
 }
 
-/// How many operations with names there are likely to be: as many as before, or one in each file.
-fn likely_count(documents: &FileMap<Shared<Document>>, before: Option<&Operations>) -> usize {
-    match before {
-        Some(before) => before.named.as_slice().len(),
-        None => documents.len(),
+/// The operations of a document file.
+fn operations_in(
+    alloc: Global,
+    file: &FileName,
+    document: &Document,
+) -> Result<Chunks<KeptOperation>, AllocError>
+    ensures { IfOk result (AreOperationsIn file.now (Some document.now)) }
+{
+    let mut operations = Chunks::new(alloc);
+    let definitions = document.definitions.as_slice();
+    for number in 0..definitions.len() {
+        let operation = kept_operation(file, number, &definitions[number])?;
+        operations = with_operation(alloc, operations, operation)?;
+    }
+    Ok(operations)
+}
+
+/// The operations of a document file, if there is one.
+fn operations_of(
+    alloc: Global,
+    file: &FileName,
+    document: Option<&Document>,
+) -> Result<Chunks<KeptOperation>, AllocError>
+    ensures { IfOk result (AreOperationsIn file.now (option_copied document.entry)) }
+{
+    match document {
+        Some(document) => operations_in(alloc, file, document),
+        None => Ok(Chunks::new(alloc)),
     }
 }
 
 impl Operations {
-    /// The operations of these files. They share the trees, and the look-up of the operations before
-    /// if these have the same names.
+    /// The operations of these files. They share the trees.
     pub fn new(
         alloc: Global,
         documents: &FileMap<Shared<Document>>,
-        before: Option<&Operations>,
     ) -> Result<Operations, AllocError>
         ensures { IfOk result (IsIndexOf documents.now) }
     {
-        let mut named = Vec::with_capacity(alloc, likely_count(documents, before))?;
-        let mut first_two = Vec::new(alloc);
-        for (_name, document) in documents.entries().iter() {
-            let definitions = document.get().definitions.as_slice();
-            add_operations(definitions, &mut named, &mut first_two)?;
+        let mut all = Chunks::new(alloc);
+        for (name, document) in documents.entries().iter() {
+            let none = Chunks::new(alloc);
+            let comes = operations_in(alloc, name, document.get())?;
+            all = all.edited(alloc, &none, &comes)?;
         }
-        Ok(Operations {
-            named: named_like(alloc, named, before)?,
-            only: only_of(first_two),
-        })
+        Ok(Operations { all })
+    }
+
+    /// The operations of document files after an edit of the file of a name, which replaces the one
+    /// there before by this one, if there is one. They share all operations of other files.
+    pub fn edited(
+        &self,
+        alloc: Global,
+        documents: &FileMap<Shared<Document>>,
+        name: &FileName,
+        before: Option<&Document>,
+        after: Option<&Document>,
+    ) -> Result<Operations, AllocError>
+        ensures { IfOk result (λ edited. (files : List (List ℕ × TheDocument))
+            → IsIndexOf files self.now → file_named files name.now ≡ option_copied before.entry
+            → documents.now ≡ edited_files files name.now (option_copied after.entry)
+            → IsIndexOf documents.now edited) }
+    {
+        let _in_order = documents.entries();
+        let goes = operations_of(alloc, name, before)?;
+        let comes = operations_of(alloc, name, after)?;
+        let all = self.all.edited(alloc, &goes, &comes)?;
+        Ok(Operations { all })
     }
 
     /// The same operations, which both share.
     pub fn copy(&self) -> Result<Operations, AllocError>
         ensures { IfOk result (λ copy. copy ≡ self.now) }
     {
-        let named = self.named.copy()?;
-        let only = match &self.only {
-            Some(definition) => Some(definition.copy()?),
-            None => None,
-        };
-        Ok(Operations { named, only })
+        let all = self.all.copy()?;
+        Ok(Operations { all })
     }
 
     /// The operation of a name.
@@ -165,9 +160,25 @@ impl Operations {
         ensures { (documents : List (List ℕ × TheDocument)) → IsIndexOf documents self.now
             → option_copied result ≡ spec.chosen documents (Some name.now) }
     {
-        match self.named.get(name) {
+        match self.all.find(&OfName { name }) {
             Some(operation) => Some(&operation.definition),
             None => None,
+        }
+    }
+
+    /// The only operation, if there is one only.
+    fn only(&self) -> Option<&Definition>
+        ensures { (documents : List (List ℕ × TheDocument)) → IsIndexOf documents self.now
+            → option_copied result ≡ spec.chosen documents None }
+    {
+        let mut items = self.all.iter();
+        let first = items.next();
+        match items.next() {
+            Some(_) => None,
+            None => match first {
+                Some(operation) => Some(&operation.definition),
+                None => None,
+            },
         }
     }
 
@@ -179,7 +190,23 @@ impl Operations {
     {
         match name {
             Some(name) => self.of_name(name),
-            None => self.only.as_ref(),
+            None => self.only(),
+        }
+    }
+}
+
+impl NameSet for Operations {
+    ghost names = { λ o. names_in o.all };
+
+    fn has(&self, name: &str) -> bool {
+        self.all.find(&OfName { name }).is_some()
+    }
+
+    fn is_empty(&self) -> bool {
+        let _in_order = self.all.iter();
+        match self.all.first() {
+            Some(operation) => operation.name.is_none(),
+            None => true,
         }
     }
 }

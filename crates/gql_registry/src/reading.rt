@@ -39,7 +39,8 @@ pub fn read_file(
     let Ok(text) = str::from_utf8(bytes) else {
         return Err(Refusal::NotText);
     };
-    let document = parse_on(alloc, side, name.copy(), text)?;
+    let name = name.copy()?;
+    let document = parse_on(alloc, side, name, text)?;
     Ok(document)
 }
 

@@ -1,9 +1,4 @@
-//! The registry: its edits, and runs of stored operations.
-ghost use Rattle.std.specs.Prelude.{◌≡◌};
-ghost use Rattle.std.specs.Option.{option_copied};
-ghost use Rattle.serde_json.specs.View.{view};
-
-use crate::calling::Ran;
+//! The registry, and its edits.
 use crate::edit_plan::EditPlan;
 use crate::kept::Kept;
 use crate::reading::{has_room, read_data, read_file};
@@ -11,7 +6,7 @@ use crate::refusal::Refusal;
 use crate::sides::files_on;
 use gql_ast::{FileName, FileSide, Profile};
 use gql_parse_sdl::{one_answer, one_document_answer};
-use gql_stored::{Additions, StoredData};
+use gql_stored::StoredData;
 use gql_verdict::Meter;
 use serde_json::{Map, Value};
 use std::alloc::{AllocError, Global};
@@ -21,30 +16,6 @@ use std::alloc::{AllocError, Global};
 pub struct Edited {
     pub revision: u64,
     pub faults: u64,
-}
-
-/// The reply to a call of a stored operation, as JSON.
-#[derive(Drop)]
-pub struct Reply {
-    pub body: Vec<u8>,
-}
-
-/// A run that is prepared: its reply, and room for what it is to add to the data.
-#[derive(Drop)]
-pub struct Prepared {
-    reply: Reply,
-    additions: Additions,
-}
-
-impl Prepared {
-    ghost use Rattle.gql_registry.specs.Prepared.{body_of};
-
-    /// The reply, as JSON.
-    pub fn body(&self) -> &[u8]
-        ensures { result.now ≡ body_of self.now }
-    {
-        self.reply.body.as_slice()
-    }
 }
 
 /// The files that services and clients have put, a verdict on each definition of the document
@@ -73,11 +44,9 @@ impl Registry {
     ghost use Rattle.gql_registry.specs.Checks.{IsInTime};
     ghost use Rattle.gql_registry.specs.Edits.{Edit, IsFirstRefusal, Makes, Reports};
     ghost use Rattle.gql_registry.specs.Edits as edit;
-    ghost use Rattle.gql_registry.specs.Calls.{Answers, CallResult, effects_in, text_of};
-    ghost use Rattle.gql_registry.specs.Prepared.{IsPreparedFor, added_by, answer_of, body_of, prepared_of};
     ghost use Rattle.gql_registry.specs.EditPlans.{IsEditPlanBy, IsEditPlanOf, IsRefusedBy};
     ghost use Rattle.gql_registry.specs.Keeping.{HasPairsDue, IsWholeWorkOn, IsWorkOn, KeepsPairs};
-    ghost use Rattle.gql_registry.specs.State.{empty, empty_in, next, pairs_of, shelf_of, state_of, with_effects};
+    ghost use Rattle.gql_registry.specs.State.{empty, empty_in, next, pairs_of, shelf_of, state_of};
     ghost use Rattle.gql_registry.specs.Works.{Works};
     ghost use Rattle.std.specs.Prelude.{[]};
 
@@ -352,52 +321,5 @@ impl Registry {
         self.stored = StoredData::new(stored);
         self.revision = revision;
         Ok(Edited { revision, faults })
-    }
-
-    /// Prepares a run of the stored operation of a name, or without a name of the only one, with the
-    /// values of its variables, which are an object or null, on the data. The refusals, in this
-    /// order: 208 if there is no such operation; 209 if the schema, the operation or a fragment
-    /// that it reaches has faults, with these faults; 213 if it is a subscription; 210 if more
-    /// values are to be completed than the profile allows; and 211 if an allocation fails. Nothing
-    /// is changed.
-    pub fn prepare(&self, name: Option<&str>, variables: &Value) -> Result<Prepared, Refusal>
-        ensures answers { Answers (state_of self.now).files (state_of self.now).stored
-            (option_copied name.entry) (view variables.now) (prepared_of result) }
-        ensures room { IfOk result (IsPreparedFor self.now) }
-    {
-        let stored = self.stored.get();
-        let Ran { body, effects } = self.kept.answer_call(self.alloc, name, variables, stored)?;
-        let additions = self.stored.prepare(self.alloc, effects)?;
-        let reply = Reply { body };
-        Ok(Prepared { reply, additions })
-    }
-
-    /// Adds what a prepared run is to add to the data, and returns its reply. The registry is as it
-    /// was when the run was prepared. This takes no memory, and the revision stays.
-    pub fn commit(&mut self, prepared: Prepared) -> Reply
-        requires { IsPreparedFor self.old prepared }
-        ensures reply { result.body.items ≡ body_of prepared }
-        ensures state { state_of self.new ≡ with_effects (state_of self.old) (added_by prepared) }
-        ensures shelf { shelf_of self.new ≡ shelf_of self.old }
-        ensures pairs { pairs_of self.new ≡ pairs_of self.old }
-    {
-        let Prepared { reply, additions } = prepared;
-        self.stored.commit(additions);
-        reply
-    }
-
-    /// Runs the stored operation of a name, as `prepare` and `commit` do: what a mutation adds to
-    /// the data is there when its reply is returned. A refused run changes nothing.
-    pub fn run(&mut self, name: Option<&str>, variables: &Value) -> Result<Reply, Refusal>
-        ensures answers { (r : CallResult)
-            × Answers (state_of self.old).files (state_of self.old).stored
-            (option_copied name.entry) (view variables.now) r
-            × (text_of r ≡ answer_of result)
-            × (state_of self.new ≡ with_effects (state_of self.old) (effects_in r)) }
-        ensures shelf { shelf_of self.new ≡ shelf_of self.old }
-        ensures pairs { pairs_of self.new ≡ pairs_of self.old }
-    {
-        let prepared = self.prepare(name, variables)?;
-        Ok(self.commit(prepared))
     }
 }

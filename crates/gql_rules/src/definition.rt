@@ -15,14 +15,14 @@ use gql_facts::{FragmentFact, World};
 use std::alloc::{AllocError, Global};
 
 /// Where a definition starts.
-pub fn owner_of(definition: &Definition) -> FilePlace
-    ensures { result ≡ spec.owner_of definition.now }
+pub fn owner_of(definition: &Definition) -> Result<FilePlace, AllocError>
+    ensures { IfOk result (λ owner. owner ≡ spec.owner_of definition.now) }
 {
-    FilePlace {
+    Ok(FilePlace {
         side: FileSide::Documents,
-        file: definition.file.copy(),
+        file: definition.file.copy()?,
         place: definition.tree.place(),
-    }
+    })
 }
 
 /// The fragment that a definition is.
@@ -99,7 +99,7 @@ pub fn local_faults<W: World>(
     ensures found { IfOk result (λ found.
         Lists found.items (spec.IsFault (W.facts world.old) definition.now)) }
 {
-    let owner = owner_of(definition);
+    let owner = owner_of(definition)?;
     let mut faults = Vec::new(alloc);
     check_parts(alloc, world, &owner, &definition.tree, &mut faults)?;
     check_cycle(alloc, &owner, definition, members, &mut faults)?;

@@ -1,5 +1,5 @@
 //! Faults of an operation or a fragment, which is their owner.
-ghost use Rattle.std.specs.Prelude.{◌≡◌, ◌++◌, ◌∷◌, [], OnOk};
+ghost use Rattle.std.specs.Prelude.{◌≡◌, ◌++◌, ◌∷◌, [], IfOk, OnOk};
 ghost use Rattle.gql_rules.specs.Faults as spec;
 
 use gql_ast::{Fault, FilePlace, FileSide, Items, Name, Rule, Text};
@@ -7,14 +7,14 @@ use gql_text::Place;
 use std::alloc::{AllocError, Global};
 
 /// A place in the owner's file.
-fn in_its_file(owner: &FilePlace, place: Place) -> FilePlace
-    ensures { result ≡ spec.in_its_file owner.now place }
+fn in_its_file(owner: &FilePlace, place: Place) -> Result<FilePlace, AllocError>
+    ensures { IfOk result (λ at. at ≡ spec.in_its_file owner.now place) }
 {
-    FilePlace {
+    Ok(FilePlace {
         side: FileSide::Documents,
-        file: owner.file.copy(),
+        file: owner.file.copy()?,
         place,
-    }
+    })
 }
 
 /// Adds a fault at a place of the owner's file.
@@ -30,12 +30,12 @@ pub fn add_fault(
         ++ spec.fault_at owner.now rule about.now place ∷ []) }
 {
     let mut places = Items::new(alloc);
-    places.push(in_its_file(owner, place))?;
+    places.push(in_its_file(owner, place)?)?;
     faults.push(Fault {
         rule,
         about: about.copy()?,
         places,
-        owner: Some(owner.copy()),
+        owner: Some(owner.copy()?),
     })?;
     Ok(())
 }

@@ -33,7 +33,7 @@ pub fn checks_of(
     let mut found = FileMap::new(alloc);
     for (name, document) in files.schema.entries().iter() {
         let check = new_check(alloc, document.get(), schema)?;
-        found.put(name.copy(), check)?;
+        found.put(name.copy()?, check)?;
     }
     Ok(found)
 }
@@ -100,7 +100,7 @@ pub fn checks_after_edit(
     for (name, document) in files.schema.entries().iter() {
         let document = document.get();
         let check = check_after_edit(alloc, schema, name, document, edited, change, before)?;
-        checks.put(name.copy(), check)?;
+        checks.put(name.copy()?, check)?;
     }
     Ok(checks)
 }

@@ -18,14 +18,14 @@ use std::alloc::{AllocError, Global};
 const FEW: usize = 4;
 
 /// Where a fragment starts.
-fn place_of(member: &FragmentFact) -> FilePlace
-    ensures { result ≡ fragment_owner member.now }
+fn place_of(member: &FragmentFact) -> Result<FilePlace, AllocError>
+    ensures { IfOk result (λ at. at ≡ fragment_owner member.now) }
 {
-    FilePlace {
+    Ok(FilePlace {
         side: FileSide::Documents,
-        file: member.file.copy(),
+        file: member.file.copy()?,
         place: member.fragment.get().place,
-    }
+    })
 }
 
 /// Where a definition starts, and where each of these fragments does.
@@ -37,23 +37,25 @@ fn places_of(
     ensures { IfOk result (λ places. places.items ≡ owner_places definition.now members.now) }
 {
     let mut places = Vec::new(alloc);
-    places.push(owner_of(definition))?;
+    places.push(owner_of(definition)?)?;
     for member in members {
-        places.push(place_of(member))?;
+        places.push(place_of(member)?)?;
     }
     Ok(places)
 }
 
 /// Whether the owner at one of these places is among these owners.
-fn is_any_among(places: &[FilePlace], owners: &Owners) -> bool
-    ensures { result ≡ list_any (contains same_place owners.now.places) places.now }
+fn is_any_among(places: &[FilePlace], owners: &Owners) -> Result<bool, AllocError>
+    ensures { IfOk result (λ is.
+        is ≡ list_any (contains same_place owners.now.places) places.now) }
 {
     for place in places {
-        if owners.has(place) {
-            return true;
+        let has = owners.has(place)?;
+        if has {
+            return Ok(true);
         }
     }
-    false
+    Ok(false)
 }
 
 /// Whether a place is one of these.
@@ -70,24 +72,28 @@ fn is_listed(place: &FilePlace, places: &[FilePlace]) -> bool
 
 /// Whether a place is one of these, at which these owners are. Few places are compared with it; many
 /// are looked up.
-fn is_among(place: &FilePlace, places: &[FilePlace], owners: &Owners) -> bool
-    ensures { AreAt places.now owners.now → result ≡ list_any (same_place place.now) places.now }
+fn is_among(place: &FilePlace, places: &[FilePlace], owners: &Owners) -> Result<bool, AllocError>
+    ensures { IfOk result (λ is. AreAt places.now owners.now
+        → is ≡ list_any (same_place place.now) places.now) }
 {
     if places.len() <= FEW {
-        is_listed(place, places)
-    } else {
-        owners.has(place)
+        return Ok(is_listed(place, places));
     }
+    let has = owners.has(place)?;
+    Ok(has)
 }
 
 /// Whether the owner of a fault is at one of these places, at which these owners are.
-fn is_owned(fault: &Fault, places: &[FilePlace], owners: &Owners) -> bool
-    ensures { AreAt places.now owners.now
-        → IsTrue result ↔ IsOwnedAmong places.now fault.now }
+fn is_owned(fault: &Fault, places: &[FilePlace], owners: &Owners) -> Result<bool, AllocError>
+    ensures { IfOk result (λ is. AreAt places.now owners.now
+        → IsTrue is ↔ IsOwnedAmong places.now fault.now) }
 {
     match &fault.owner {
-        None => false,
-        Some(owner) => is_among(owner, places, owners),
+        None => Ok(false),
+        Some(owner) => {
+            let is_among = is_among(owner, places, owners)?;
+            Ok(is_among)
+        }
     }
 }
 
@@ -102,7 +108,8 @@ fn picked(
     let owners = Owners::at(alloc, places)?;
     let mut owned = Vec::new(alloc);
     for fault in faults {
-        if is_owned(fault.get(), places, &owners) {
+        let is_owned = is_owned(fault.get(), places, &owners)?;
+        if is_owned {
             owned.push(fault.clone()?)?;
         }
     }
@@ -131,7 +138,8 @@ pub fn owned_faults<W: World>(
     }
     let walk = walk_reads(alloc, world, definition)?;
     let places = places_of(alloc, definition, walk.members.as_slice())?;
-    if !is_any_among(places.as_slice(), owners) {
+    let is_any_among = is_any_among(places.as_slice(), owners)?;
+    if !is_any_among {
         return Ok(Vec::new(alloc));
     }
     picked(alloc, places.as_slice(), faults)

@@ -70,7 +70,7 @@ fn add_owner(fault: &Fault, places: &mut HashSet<Owner>) -> Result<(), AllocErro
 {
     if let Some(owner) = &fault.owner {
         places.insert(Owner {
-            place: owner.copy(),
+            place: owner.copy()?,
         })?;
     }
     Ok(())
@@ -95,18 +95,19 @@ impl Owners {
         let mut places = HashSet::new(alloc);
         for owner in owners {
             places.insert(Owner {
-                place: owner.copy(),
+                place: owner.copy()?,
             })?;
         }
         Ok(Owners { places })
     }
 
     /// Whether the owner at a place is one of them.
-    pub(crate) fn has(&self, place: &FilePlace) -> bool
-        ensures { result ≡ contains same_place self.now.places place.now }
+    pub(crate) fn has(&self, place: &FilePlace) -> Result<bool, AllocError>
+        ensures { IfOk result (λ has. has ≡ contains same_place self.now.places place.now) }
     {
-        self.places.contains(&Owner {
-            place: place.copy(),
-        })
+        let owner = Owner {
+            place: place.copy()?,
+        };
+        Ok(self.places.contains(&owner))
     }
 }

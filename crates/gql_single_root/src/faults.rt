@@ -54,7 +54,7 @@ fn fault_of(field: &RootField<'_>) -> Result<RootFault, AllocError>
 {
     let name = response_name(field.field);
     Ok(RootFault {
-        file: field.file.copy(),
+        file: field.file.copy()?,
         place: name.place,
         about: name.text.copy()?,
     })
@@ -109,7 +109,7 @@ pub fn fault_of_none(
     ensures { IfOk result (λ x. x ≡ spec.fault_of_none file.now operation.now) }
 {
     Ok(RootFault {
-        file: file.copy(),
+        file: file.copy()?,
         place: operation.place,
         about: name_or_empty(alloc, &operation.name)?,
     })

@@ -67,11 +67,7 @@ fn types_in(alloc: Global, document: Option<&Document>) -> Result<Vec<TypeSite<'
 {
     match document {
         Some(document) => {
-            let Gathered {
-                types,
-                others: _,
-                source: _,
-            } = Gathered::of_file(alloc, document)?;
+            let Gathered { types, others: _ } = Gathered::of_file(alloc, document)?;
             Ok(types)
         }
         None => Ok(Vec::new(alloc)),

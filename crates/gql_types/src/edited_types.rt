@@ -162,7 +162,6 @@ impl EditedTypes {
             roles,
             places,
             prints,
-            source: _,
         } = list;
         let types = types.finish(alloc)?;
         match Named::of_prints(alloc, types, prints)? {
@@ -187,7 +186,6 @@ impl EditedTypes {
             roles,
             places,
             prints: _,
-            source: _,
         } = list;
         let types = types.finish(alloc)?;
         let types = Named::new(alloc, types)?;
@@ -216,7 +214,6 @@ impl EditedTypes {
             roles,
             places,
             prints: _,
-            source: _,
         } = list;
         let types = types.finish(alloc)?;
         let types = Named::of_names(alloc, types, others)?;

@@ -5,9 +5,9 @@ ghost use Rattle.gql_ast.specs.declared.definition.Tree.TheVariants as tree;
 ghost use Rattle.gql_types.specs.Definitions as spec;
 ghost use Rattle.gql_types.specs.Sites.{others_in, site};
 
-use crate::type_site::{TypeSite, source_like};
+use crate::type_site::{TypeSite, source_of};
 use gql_ast::{Definition, Document, FileName, Files, Items, Shared, Tree, TypeDefinition};
-use gql_built_in::{Sited, SourceFile, name_of_source};
+use gql_built_in::{Sited, name_of_source};
 use std::alloc::{AllocError, Global};
 
 /// The definitions of types, where they stand, and all definitions that are not of types. That of
@@ -16,8 +16,6 @@ use std::alloc::{AllocError, Global};
 pub struct Gathered<'d> {
     pub types: Vec<TypeSite<'d>>,
     pub others: Items<Sited<Tree>>,
-    /// The file of the last of the others, whose name is shared.
-    pub source: SourceFile,
 }
 
 /// Whether a definition of this name, in this file, is that of a type: not that of Float in a file.
@@ -48,31 +46,20 @@ impl<'d> Gathered<'d> {
     }
 
     /// Adds a definition that is not of a type.
-    fn add_other(
-        &mut self,
-        alloc: Global,
-        file: Option<&FileName>,
-        tree: &Tree,
-    ) -> Result<(), AllocError>
+    fn add_other(&mut self, file: Option<&FileName>, tree: &Tree) -> Result<(), AllocError>
         ensures types { self.new.types ≡ self.old.types }
         ensures others { OnOk result (self.new.others ≡ self.old.others
             ++ (record { file = option_copied file.entry; node = tree.now }) ∷ []) }
     {
-        self.source = source_like(alloc, file, &self.source)?;
         self.others.push(Sited {
-            file: source_like(alloc, file, &self.source)?,
+            file: source_of(file)?,
             node: tree.copy()?,
         })?;
         Ok(())
     }
 
     /// Adds a definition.
-    fn add(
-        &mut self,
-        alloc: Global,
-        file: Option<&'d FileName>,
-        tree: &'d Tree,
-    ) -> Result<(), AllocError>
+    fn add(&mut self, file: Option<&'d FileName>, tree: &'d Tree) -> Result<(), AllocError>
         ensures types { OnOk result (map site self.new.types.items ≡ map site self.old.types.items
             ++ spec.type_in (option_copied file.entry) tree.now) }
         ensures others { OnOk result (self.new.others ≡ self.old.others
@@ -80,36 +67,32 @@ impl<'d> Gathered<'d> {
     {
         match tree {
             Tree::Type(node) => self.add_type(file, node),
-            _ => self.add_other(alloc, file, tree),
+            _ => self.add_other(file, tree),
         }
     }
 
     /// Adds the built-in definitions.
-    fn add_built_in(
-        &mut self,
-        alloc: Global,
-        definitions: &'d [Sited<Tree>],
-    ) -> Result<(), AllocError>
+    fn add_built_in(&mut self, definitions: &'d [Sited<Tree>]) -> Result<(), AllocError>
         ensures types { OnOk result (map site self.new.types.items ≡ map site self.old.types.items
             ++ spec.type_definitions definitions.now) }
         ensures others { OnOk result (self.new.others ≡ self.old.others
             ++ others_in definitions.now) }
     {
         for definition in definitions {
-            self.add(alloc, name_of_source(&definition.file), &definition.node)?;
+            self.add(name_of_source(&definition.file), &definition.node)?;
         }
         Ok(())
     }
 
     /// Adds the definitions of a file.
-    fn add_file(&mut self, alloc: Global, definitions: &'d [Definition]) -> Result<(), AllocError>
+    fn add_file(&mut self, definitions: &'d [Definition]) -> Result<(), AllocError>
         ensures types { OnOk result (map site self.new.types.items ≡ map site self.old.types.items
             ++ spec.type_definitions (spec.in_order_of definitions.now)) }
         ensures others { OnOk result (self.new.others ≡ self.old.others
             ++ others_in (spec.in_order_of definitions.now)) }
     {
         for definition in definitions {
-            self.add(alloc, Some(&definition.file), &definition.tree)?;
+            self.add(Some(&definition.file), &definition.tree)?;
         }
         Ok(())
     }
@@ -122,7 +105,6 @@ impl<'d> Gathered<'d> {
         Gathered {
             types: Vec::new(alloc),
             others: Items::new(alloc),
-            source: None,
         }
     }
 
@@ -136,7 +118,7 @@ impl<'d> Gathered<'d> {
         ensures others { IfOk result (λ found. found.others ≡ others_in definitions.now) }
     {
         let mut found = Gathered::none(alloc);
-        found.add_built_in(alloc, definitions)?;
+        found.add_built_in(definitions)?;
         Ok(found)
     }
 
@@ -148,7 +130,7 @@ impl<'d> Gathered<'d> {
             ≡ others_in (spec.in_order_of document.now.definitions)) }
     {
         let mut found = Gathered::none(alloc);
-        found.add_file(alloc, document.definitions.as_slice())?;
+        found.add_file(document.definitions.as_slice())?;
         Ok(found)
     }
 }
@@ -165,9 +147,9 @@ pub fn gather<'d>(
         ≡ others_in (built_in.now ++ spec.of_files files.now.schema)) }
 {
     let mut found = Gathered::none(alloc);
-    found.add_built_in(alloc, built_in)?;
+    found.add_built_in(built_in)?;
     for (_name, document) in files.schema.entries().iter() {
-        found.add_file(alloc, document.get().definitions.as_slice())?;
+        found.add_file(document.get().definitions.as_slice())?;
     }
     Ok(found)
 }

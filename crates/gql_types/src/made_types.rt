@@ -18,7 +18,7 @@ use crate::parts::{all_held, interfaces, members, parts_in};
 use crate::schema_type::SchemaType;
 use crate::type_site::TypeSite;
 use gql_ast::{Items, Shared, TypeDefinition, TypeExtension};
-use gql_built_in::{Sited, SourceFile, same_source};
+use gql_built_in::{Sited, same_source};
 use std::alloc::{AllocError, Global};
 
 fn is_of_kind(kind: TypeKind, extension: &Sited<Shared<TypeExtension>>) -> bool
@@ -111,21 +111,18 @@ fn with_extensions(
     Ok(of_type)
 }
 
-/// The type of a definition, with the extensions of its name and kind. It shares the name of its
-/// file with this one, if that is the same; else its own takes the place of that.
+/// The type of a definition, with the extensions of its name and kind.
 pub(crate) fn made_type(
     alloc: Global,
     definition: &TypeSite<'_>,
     extensions: &ByName<'_, Sited<Shared<TypeExtension>>>,
-    source: &mut SourceFile,
 ) -> Result<SchemaType, AllocError>
     ensures { IfOk result (λ t.
         t ≡ type_by (λ q. option_map_or (λ group. map (λ x. x.now) group.items)
         (hash.get_by_text extensions.now q) []) (site definition.now)) }
 {
-    let definition = definition.shared(alloc, source)?;
+    let definition = definition.shared()?;
     let of_type = with_extensions(alloc, &definition, extensions)?;
-    *source = same_source(&definition.file)?;
     Ok(of_type)
 }
 
@@ -139,9 +136,8 @@ fn all_with_extensions(
         (hash.get_by_text extensions.now q) [])) (map site definitions.now)) }
 {
     let mut types = BatchList::with_capacity(alloc, definitions.len())?;
-    let mut source = None;
     for definition in definitions {
-        let of_type = made_type(alloc, definition, extensions, &mut source)?;
+        let of_type = made_type(alloc, definition, extensions)?;
         types.add(of_type)?;
     }
     let types = types.finish(alloc)?;

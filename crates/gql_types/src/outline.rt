@@ -70,11 +70,7 @@ impl FileOutline {
         ensures types { result.types ≡ length definitions.entry.types.items }
         ensures others { result.others ≡ definitions.entry.others }
     {
-        let Gathered {
-            types,
-            others,
-            source: _,
-        } = definitions;
+        let Gathered { types, others } = definitions;
         FileOutline {
             types: types.len(),
             others,
@@ -98,7 +94,7 @@ impl Outline {
         let mut found = FileMap::new(alloc);
         for (name, document) in files.schema.entries().iter() {
             let file = FileOutline::of_file(alloc, document.get())?;
-            found.put(name.copy(), Shared::new(alloc, file)?)?;
+            found.put(name.copy()?, Shared::new(alloc, file)?)?;
         }
         Ok(Outline {
             files: found,
@@ -121,7 +117,7 @@ impl Outline {
     {
         let mut files = self.files.copy()?;
         match file {
-            Some(file) => files.put(name.copy(), Shared::new(alloc, file)?)?,
+            Some(file) => files.put(name.copy()?, Shared::new(alloc, file)?)?,
             None => {
                 let _removed = files.remove(name);
             }

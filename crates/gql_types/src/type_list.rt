@@ -13,7 +13,7 @@ use crate::role::Role;
 use crate::schema_type::SchemaType;
 use crate::type_site::TypeSite;
 use gql_ast::{Shared, TypeExtension};
-use gql_built_in::{Sited, SourceFile};
+use gql_built_in::Sited;
 use std::alloc::{AllocError, Global};
 
 /// Types in the making, in their order: those that an edit leaves as they are, and new ones.
@@ -27,8 +27,6 @@ pub struct TypeList {
     pub places: Vec<Option<usize>>,
     /// The prints of the names.
     pub prints: Vec<u64>,
-    /// The file of the last type that was made, whose name is shared.
-    pub source: SourceFile,
 }
 
 /// Where a type of this role stood, if it is neither an interface nor a union.
@@ -54,7 +52,6 @@ impl TypeList {
             roles: Vec::with_capacity(alloc, count)?,
             places: Vec::with_capacity(alloc, count)?,
             prints: Vec::with_capacity(alloc, count)?,
-            source: None,
         })
     }
 
@@ -102,7 +99,7 @@ impl TypeList {
         ensures prints { OnOk result (self.new.prints.items
             ≡ self.old.prints.items ++ print ∷ []) }
     {
-        let of_type = made_type(alloc, definition, extensions, &mut self.source)?;
+        let of_type = made_type(alloc, definition, extensions)?;
         self.roles.push(Role::of(&of_type))?;
         self.types.add(of_type)?;
         self.places.push(None)?;
@@ -129,7 +126,7 @@ impl TypeList {
         ensures prints { OnOk result (self.new.prints.items
             ≡ self.old.prints.items ++ print ∷ []) }
     {
-        let of_type = made_type(alloc, definition, extensions, &mut self.source)?;
+        let of_type = made_type(alloc, definition, extensions)?;
         let of_type = Batched::new(alloc, of_type)?;
         self.roles.push(Role::of(of_type.get()))?;
         self.types.keep(&of_type)?;

@@ -4,9 +4,9 @@ ghost use Rattle.std.specs.Option.{option_copied};
 ghost use Rattle.gql_types.specs.Sites.{site};
 
 use crate::named::HasName;
-use gql_ast::{FileName, Same, Shared, TypeDefinition};
+use gql_ast::{FileName, Shared, TypeDefinition};
 use gql_built_in::{Sited, SourceFile};
-use std::alloc::{AllocError, Global};
+use std::alloc::AllocError;
 
 /// The definition of a type, where it stands, with the file that it is in. Built-in ones have none.
 #[derive(Clone, Copy)]
@@ -23,33 +23,13 @@ impl<'d> HasName for TypeSite<'d> {
     }
 }
 
-/// The name of a file to share: this one, if it is the same.
-fn shared_name(
-    alloc: Global,
-    file: &FileName,
-    like: &SourceFile,
-) -> Result<Shared<FileName>, AllocError>
-    ensures { IfOk result (λ name. name ≡ file.now) }
-{
-    if let Some(name) = like {
-        if name.get().same(file) {
-            return name.clone();
-        }
-    }
-    Shared::new(alloc, file.copy())
-}
-
-/// The file of a definition. It shares its name with this one, if that is the same.
-pub fn source_like(
-    alloc: Global,
-    file: Option<&FileName>,
-    like: &SourceFile,
-) -> Result<SourceFile, AllocError>
+/// The file of a definition, which shares the text of its name.
+pub fn source_of(file: Option<&FileName>) -> Result<SourceFile, AllocError>
     ensures { IfOk result (λ source. source ≡ option_copied file.entry) }
 {
     match file {
         Some(file) => {
-            let name = shared_name(alloc, file, like)?;
+            let name = file.copy()?;
             Ok(Some(name))
         }
         None => Ok(None),
@@ -57,17 +37,12 @@ pub fn source_like(
 }
 
 impl<'d> TypeSite<'d> {
-    /// The definition, which is shared. The name of its file is shared with this one, if that is the
-    /// same.
-    pub fn shared(
-        &self,
-        alloc: Global,
-        like: &SourceFile,
-    ) -> Result<Sited<Shared<TypeDefinition>>, AllocError>
+    /// The definition, which is shared, and so is the text of the name of its file.
+    pub fn shared(&self) -> Result<Sited<Shared<TypeDefinition>>, AllocError>
         ensures { IfOk result (λ definition. definition ≡ site self.now) }
     {
         Ok(Sited {
-            file: source_like(alloc, self.file, like)?,
+            file: source_of(self.file)?,
             node: self.node.clone()?,
         })
     }

@@ -143,7 +143,8 @@ pub fn breaks_definition(
         ↔ spec.Breaks (facts_of_present question.now.present) question.now.removal.now
         definition.now) }
 {
-    match question.shelf.get(&definition.id()) {
+    let id = definition.id()?;
+    match question.shelf.get(&id) {
         Some(verdict) => breaks(alloc, question.present, question.removal, verdict, shared),
         None => Ok(false),
     }

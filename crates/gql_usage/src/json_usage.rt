@@ -80,7 +80,8 @@ fn write_reader(
     write_bytes(out, b"{")?;
     write_definition(alloc, out, &reader.definition.tree)?;
     write_bytes(out, b",")?;
-    write_place(alloc, out, paths, &place_of(&reader.definition))?;
+    let place = place_of(&reader.definition)?;
+    write_place(alloc, out, paths, &place)?;
     write_bytes(out, b",\"by_itself\":")?;
     write_bool(out, reader.by_itself)?;
     write_bytes(out, b",\"through\":")?;

@@ -30,7 +30,7 @@ fn side_paths(
     for file in named {
         if let Some(found) = given.get(file.at) {
             let path = format!(in alloc; "{folder}/{}", found.path)?;
-            paths.put(file.name.copy(), path)?;
+            paths.put(file.name.copy()?, path)?;
         }
     }
     Ok(paths)

@@ -31,7 +31,7 @@ pub struct Reader {
 fn fragment_definition(fragment: &FragmentFact) -> Result<Definition, AllocError>
     ensures { IfOk result (λ definition. definition ≡ definition_of fragment.now) }
 {
-    let file = fragment.file.copy();
+    let file = fragment.file.copy()?;
     let its = fragment.fragment.clone()?;
     Ok(Definition {
         file,
@@ -216,10 +216,10 @@ pub fn readers_of(
 }
 
 /// Where a definition begins.
-pub fn place_of(definition: &Definition) -> FilePlace {
-    FilePlace {
+pub fn place_of(definition: &Definition) -> Result<FilePlace, AllocError> {
+    Ok(FilePlace {
         side: FileSide::Documents,
-        file: definition.file.copy(),
+        file: definition.file.copy()?,
         place: definition.tree.place(),
-    }
+    })
 }

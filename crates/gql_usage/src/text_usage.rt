@@ -102,7 +102,8 @@ fn write_through(out: &mut String, reader: &Reader) -> Result<(), AllocError> {
 /// Writes the line of a reader.
 fn write_reader(out: &mut String, paths: &Paths, reader: &Reader) -> Result<(), AllocError> {
     write_text(out, "  ")?;
-    write_place(out, paths, &place_of(&reader.definition))?;
+    let place = place_of(&reader.definition)?;
+    write_place(out, paths, &place)?;
     write_text(out, ": ")?;
     write_definition(out, &reader.definition.tree)?;
     write_through(out, reader)?;

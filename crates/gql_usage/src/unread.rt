@@ -71,7 +71,7 @@ fn add_part(
     if let Some(name) = name_of_source(file) {
         let place = FilePlace {
             side: FileSide::Schema,
-            file: name.copy(),
+            file: name.copy()?,
             place,
         };
         unread.push(Unread {

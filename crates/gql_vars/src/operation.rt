@@ -71,7 +71,7 @@ fn operation_faults<W: World>(
     ensures found { IfOk result (λ found.
         ListsAll found.items (spec.IsFaultOf (W.facts world.old) definition.now operation.now)) }
 {
-    let owner = owner_of(definition);
+    let owner = owner_of(definition)?;
     let variables = operation.variables.as_slice();
     let mut faults = Vec::new(alloc);
     v25_variable_uniqueness::check(alloc, &owner, variables, &mut faults)?;

@@ -4,7 +4,7 @@ use Rattle.std.specs.Prelude.{◌≡◌, ◌<◌, ◌↔◌, ℕ, List, [], ◌�
 use Rattle.std.specs.declared.cmp.Ordering.{Ordering}
 use Rattle.std.specs.declared.cmp.Ordering.TheVariants.{Less, Equal, Greater}
 use Rattle.std.specs.Option.{option_copied}
-use Rattle.std.proofs.Common.{ap, sym, ◌∙◌, subst, inl, inr, Bor}
+use Rattle.std.proofs.Common.{ap, arith, get_or, sym, ◌∙◌, subst, inl, inr, Bor}
 use Rattle.std.proofs.lemmas.Grind.{flat_map-append}
 use Rattle.std.proofs.lemmas.List.{map-append}
 use Rattle.std.proofs.lemmas.Slice.Eq.{bytes_eq-Decides}
@@ -16,13 +16,13 @@ use Rattle.gql_ast.specs.declared.definition.Tree.TheVariants as tree
 use Rattle.gql_ast.specs.declared.files.Files.{Files}
 use Rattle.gql_facts.specs.Facts.{fragment_in, fragments}
 use Rattle.gql_facts.specs.declared.fact.FragmentFact.{FragmentFact}
-use Rattle.gql_facts.specs.ListMembers.{Contains-cases, Contains-map, Contains-nil, either, found_in}
+use Rattle.gql_facts.specs.ListMembers.{Contains-cases, Contains-here, Contains-map, Contains-nil, either, found_in}
 use Rattle.gql_verdict.specs.Definitions.{all_definitions, fragment_name}
 use Rattle.gql_verdict.specs.DocumentEdits.{name_of, with_document}
 use Rattle.gql_verdict.specs.NameFaults.{faults_of}
-use Rattle.gql_verdict.specs.NameViews.{KeepsNamesSound}
+use Rattle.gql_verdict.specs.NameViews.{KeepsNamesSound, Titled, operation, fragment, of_types, titled}
 use Rattle.gql_verdict.specs.Naming.{named_by, text_of, with_name}
-use Rattle.gql_verdict.specs.NewNames.{BringsNewNames, HaveNewNames, IsNoneOf, names_of_fragments, names_of_operations}
+use Rattle.gql_verdict.specs.NewNames.{BringsNewNames, HasNewName, HaveNewNames, HaveSameNames, IsNoneOf, names_of_fragments, names_of_operations}
 use Rattle.gql_verdict.specs.Spreads.{Names}
 use Rattle.gql_verdict.proofs.Inserted.{inserted_sound}
 
@@ -65,6 +65,15 @@ new_file_keeps files name document brings sound =
     brings.alone
 
 -- ---- names that are looked up
+
+-- a look-up that finds a file does not find none
+pub none_there : {A : Type 0} (found : Option (Bor A)) → is_some found ≡ true → option_copied found ≡ None → ⊥
+none_there None some none =
+    let z : false ≡ true = some in
+    cc z
+none_there (Some x) some none =
+    let z : Some x.now ≡ None = none in
+    cc z
 
 module _ {A : Type 0} (name : A → List ℕ) (q : List ℕ) where
   -- where a look-up finds nothing, no thing has the name
@@ -127,16 +136,44 @@ names_of_all_fragments (file ∷ files) =
     ∙ sym (ap (map text_of) (flat_map-append of_tree file.1.definitions (all_definitions files))
     ∙ map-append text_of (named_by fragment_name file.1.definitions) (named_by fragment_name (all_definitions files)))
 
+-- a name that none of some has is one that none of others has, if they have the same names
+same_title : (operations others fragments : Names) → HaveSameNames operations others → (t : Titled) → HasNewName operations fragments t → HasNewName others fragments t
+same_title operations others fragments same (operation None) new = new
+same_title operations others fragments same (operation (Some name)) new = λ c. new ((same name).1 c)
+same_title operations others fragments same (fragment name) new = new
+same_title operations others fragments same of_types new = new
+
+same_titles : (operations others fragments : Names) → HaveSameNames operations others → (ds : List Definition) → HaveNewNames operations fragments ds → HaveNewNames others fragments ds
+same_titles operations others fragments same ds new k d l = same_title operations others fragments same (titled (get_or ds k d).tree) (new k d l)
+
+turned : (operations others : Names) → HaveSameNames operations others → HaveSameNames others operations
+turned operations others same name = ((same name).1, (same name).0)
+
+-- some name is there, if some is among the same names
+pub some_names : (operations others : Names) → HaveSameNames operations others → (operations ≡ [] → ⊥) → 0 < length others
+some_names [] others same some = absurd (some refl)
+some_names (name ∷ operations) others same some = not_empty others ((same name).0 (Contains-here name operations))
+  where
+    not_empty : (others : Names) → Contains others name → 0 < length others
+    not_empty [] c = absurd (Contains-nil name c)
+    not_empty (other ∷ others) c = omega arith
+
+-- there are none, if there are none of the same names
+pub no_names : (operations others : Names) → HaveSameNames operations others → operations ≡ [] → 0 < length others → ⊥
+no_names operations [] same none some = omega (arith, some)
+no_names operations (other ∷ others) same none some = Contains-nil other (subst (λ names. Contains names other) none ((same other).1 (Contains-here other others)))
+
 -- definitions that have new names, by names that are those of files
 pub have_same_names : (documents : List (List ℕ × Document)) (operations : Names) (all : List FragmentFact) (ds es : List Definition)
-    → operations ≡ names_of_operations (all_definitions documents) → all ≡ fragments documents → ds ≡ es
+    → HaveSameNames operations (names_of_operations (all_definitions documents)) → all ≡ fragments documents → ds ≡ es
     → HaveNewNames operations (map name_of all) ds
     ↔ HaveNewNames (names_of_operations (all_definitions documents)) (names_of_fragments (all_definitions documents)) es
 have_same_names documents operations all ds es same listed is =
+    let names = names_of_operations (all_definitions documents) in
     let others = names_of_fragments (all_definitions documents) in
     let texts : map name_of all ≡ others = ap (map name_of) listed ∙ names_of_all_fragments documents in (
-      λ new. subst (λ names. HaveNewNames names others es) same
-          (subst (λ names. HaveNewNames operations names es) texts (subst (HaveNewNames operations (map name_of all)) is new)),
+      λ new. same_titles operations names others same es
+          (subst (λ texts. HaveNewNames operations texts es) texts (subst (HaveNewNames operations (map name_of all)) is new)),
       λ new. subst (HaveNewNames operations (map name_of all)) (sym is)
-          (subst (λ names. HaveNewNames operations names es) (sym texts) (subst (λ names. HaveNewNames names others es) (sym same) new)),
+          (subst (λ texts. HaveNewNames operations texts es) (sym texts) (same_titles names operations others (turned operations names same) es new)),
     )

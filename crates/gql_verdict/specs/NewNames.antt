@@ -1,6 +1,6 @@
 -- Document files that bring only new names, and use the fragments that they bring (GraphQL 5.1.1,
 -- 5.2.1.1, 5.2.2.1, 5.5.1.1, 5.5.1.4).
-use Rattle.std.specs.Prelude.{◌≡◌, ◌<◌, ℕ, List, [], map, length, All, Contains, Some, None}
+use Rattle.std.specs.Prelude.{◌≡◌, ◌<◌, ◌↔◌, ℕ, List, [], map, length, All, Contains, Some, None}
 use Rattle.gql_ast.specs.FileMaps.{file_named}
 use Rattle.gql_ast.specs.declared.definition.Definition.{Definition}
 use Rattle.gql_ast.specs.declared.definition.Document.{Document}
@@ -17,6 +17,10 @@ names_of_operations ds = map text_of (named_by operation_name ds)
 -- the names of the fragments
 abbrev pub names_of_fragments : List Definition → Names
 names_of_fragments ds = map text_of (named_by fragment_name ds)
+
+-- two lists have the same names
+abbrev pub HaveSameNames : Names → Names → Type 0
+HaveSameNames names others = (name : List ℕ) → Contains names name ↔ Contains others name
 
 -- a name is none of these
 abbrev pub IsNoneOf : Names → List ℕ → Type 0

@@ -1,5 +1,7 @@
 //! Whether a verdict observes a key, by the index.
-ghost use Rattle.std.specs.Prelude.{◌≡◌, ◌↔◌, Contains, IsTrue};
+ghost use Rattle.std.specs.Prelude.{◌≡◌, ◌↔◌, Contains, IfSome, IsTrue};
+ghost use Rattle.std.specs.Option.{option_copied};
+ghost use Rattle.gql_reads.specs.Leading.{IsLed};
 ghost use Rattle.gql_reads.specs.Observations.{keys_of, observed};
 ghost use Rattle.gql_readers.specs.Indexes.{AreEntriesInOrder, Reading as AReading};
 ghost use Rattle.gql_verdict.specs.Marks as spec;
@@ -11,7 +13,7 @@ use crate::slot::Slot;
 use gql_ast::Shared;
 use gql_facts::Key;
 use gql_readers::{Entry, Index};
-use gql_reads::observes;
+use gql_reads::{Answer, observes};
 
 /// Whether an entry that has readers observed a key.
 fn is_asked(entry: &Entry, key: &Key) -> bool
@@ -45,6 +47,23 @@ fn is_asked_itself(index: &Index, key: &Key) -> bool
     match index.find(key) {
         Some(entry) => is_asked(entry, key),
         None => false,
+    }
+}
+
+/// The answer that the readers of a key had, if there are readers: with exactly the types that it
+/// leads to, as theirs. This is the index of the slots.
+pub fn kept_answer<'i>(slots: &[Slot], index: &'i Index, key: &Key) -> Option<&'i Shared<Answer>>
+    requires { IsShelved slots.now index.now }
+    ensures { IfSome (option_copied result) (λ a. IsLed a) }
+{
+    match index.find(key) {
+        Some(entry) => {
+            if entry.readers().is_empty() {
+                return None;
+            }
+            Some(entry.answer())
+        }
+        None => None,
     }
 }
 

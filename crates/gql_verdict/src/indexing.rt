@@ -64,7 +64,8 @@ fn add_gone(
         return Ok(());
     }
     if let Slot::Here(verdict) = slot {
-        let id = Shared::new(alloc, verdict.def().id())?;
+        let own = verdict.def().id()?;
+        let id = Shared::new(alloc, own)?;
         changes.go(alloc, &id, verdict.reading())?;
     }
     Ok(())
@@ -107,7 +108,8 @@ fn add_replaced(
         → AreNotesBetween changes.new
         (old ++ reader_of before.now ∷ []) (new ++ reader_of after.now ∷ [])) }
 {
-    let id = Shared::new(alloc, after.def().id())?;
+    let own = after.def().id()?;
+    let id = Shared::new(alloc, own)?;
     changes.replace(alloc, &id, before.reading(), after.reading())?;
     Ok(())
 }
@@ -181,7 +183,8 @@ fn add_verdict(
         add_in_place(alloc, kept, stay, at, place, verdict, changes)?;
         return Ok(place + 1);
     }
-    let id = Shared::new(alloc, verdict.def().id())?;
+    let own = verdict.def().id()?;
+    let id = Shared::new(alloc, own)?;
     changes.come(alloc, &id, verdict.reading())?;
     Ok(at)
 }

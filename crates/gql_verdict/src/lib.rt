@@ -32,7 +32,7 @@ mod verdict;
 
 pub use meter::Meter;
 pub use names::name_faults;
-pub use new_names::brings_new_names;
+pub use new_names::{NameSet, brings_new_names};
 pub use same_names::keeps_names;
 pub use shared_work::SharedWork;
 pub use sharing::shared_faults;

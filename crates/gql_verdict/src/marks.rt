@@ -3,6 +3,7 @@ ghost use Rattle.std.specs.Prelude.{◌≡◌, ◌∷◌, [], ℕ, IfOk, OnOk, C
 ghost use Rattle.std.specs.HashMap as hash;
 ghost use Rattle.gql_facts.specs.declared.key.Key.{Key as AKey};
 ghost use Rattle.gql_pairs.specs.Doubts.{in_doubt};
+ghost use Rattle.gql_readers.specs.Chunks.{joined};
 ghost use Rattle.gql_verdict.specs.Marks.{AreBroken, AreDone, AreMarked, AreMarks, IsCompared, IsDoubtCompared, IsFragmentCompared, IsMarked, IsShelved, KeepMarks, OnlyMarks};
 ghost use Rattle.gql_verdict.specs.Slots.{IsInOrder};
 ghost use Rattle.gql_verdict.specs.TouchedFacts.{touches};
@@ -12,10 +13,10 @@ ghost use Rattle.gql_verdict.specs.declared.touched.Touched.TheVariants.{File};
 use crate::slot::{Slot, find};
 use crate::spreads::add_name;
 use crate::touched::{FileEdit, Touched};
-use gql_ast::{DefinitionId, Shared, Text};
+use gql_ast::{DefinitionId, Items, Shared, Text};
 use gql_facts::{Key, World};
 use gql_pairs::Doubt;
-use gql_readers::{Entry, Index};
+use gql_readers::{Entry, Index, ReaderList};
 use gql_reads::answer_holds;
 use std::alloc::{AllocError, Global};
 use std::collections::HashMap;
@@ -39,7 +40,7 @@ fn mark(slots: &[Slot], id: &DefinitionId, marks: &mut [bool])
     ensures marked { AreMarked slots.now marks.new (id.now ∷ []) }
     ensures only { OnlyMarks slots.now marks.old marks.new (id.now ∷ []) }
 {
-    if let Some(j) = find(slots, id) {
+    if let Some(j) = find(slots, &id.file, id.offset) {
         marks[j] = true;
     }
 }
@@ -56,6 +57,32 @@ fn mark_all(slots: &[Slot], ids: &[Shared<DefinitionId>], marks: &mut [bool])
     for id in ids {
         mark(slots, id.get(), marks);
     }
+}
+
+/// Marks the verdicts on definitions in chunks.
+fn mark_chunks(slots: &[Slot], chunks: &[Shared<Items<Shared<DefinitionId>>>], marks: &mut [bool])
+    requires order { IsInOrder slots.now }
+    requires long { length marks.old ≡ length slots.now }
+    ensures long { length marks.new ≡ length slots.now }
+    ensures kept { KeepMarks marks.old marks.new }
+    ensures marked { AreMarked slots.now marks.new (joined chunks.now) }
+    ensures only { OnlyMarks slots.now marks.old marks.new (joined chunks.now) }
+{
+    for chunk in chunks {
+        mark_all(slots, chunk.get().as_slice(), marks);
+    }
+}
+
+/// Marks the verdicts on the readers of a key.
+fn mark_readers(slots: &[Slot], readers: &ReaderList, marks: &mut [bool])
+    requires order { IsInOrder slots.now }
+    requires long { length marks.old ≡ length slots.now }
+    ensures long { length marks.new ≡ length slots.now }
+    ensures kept { KeepMarks marks.old marks.new }
+    ensures marked { AreMarked slots.now marks.new readers.now }
+    ensures only { OnlyMarks slots.now marks.old marks.new readers.now }
+{
+    mark_chunks(slots, readers.chunks(), marks);
 }
 
 /// Compares the answer to a key, with those about the types that it leads to, once for all readers of
@@ -80,7 +107,7 @@ fn compare<W: World>(
 {
     let holds = answer_holds(alloc, world, entry.answer().get())?;
     if !holds {
-        mark_all(slots, entry.readers(), marks);
+        mark_readers(slots, entry.readers(), marks);
     }
     Ok(())
 }

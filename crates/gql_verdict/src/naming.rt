@@ -82,7 +82,8 @@ pub fn add_fault_of_name(
     ensures { OnOk result (faults.new.items ≡ faults.old.items
         ++ spec.fault_of_name rule (named one.now) ∷ []) }
 {
-    add_fault_of(alloc, &owner_of(one.definition), rule, one.name, faults)
+    let owner = owner_of(one.definition)?;
+    add_fault_of(alloc, &owner, rule, one.name, faults)
 }
 
 /// Adds a name to a set. Returns whether the set had it.

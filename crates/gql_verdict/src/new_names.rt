@@ -1,11 +1,12 @@
 //! Document files that bring only new names, and that use the fragments that they bring.
-ghost use Rattle.std.specs.Prelude.{◌↔◌, ◌≡◌, [], IfOk, IsTrue, map};
+ghost use Rattle.std.specs.Prelude.{◌↔◌, ◌≡◌, [], Contains, IfOk, IsTrue, map};
 ghost use Rattle.gql_facts.specs.Facts.{fragments as fragments_of};
 ghost use Rattle.gql_verdict.specs.Definitions.{all_definitions};
 ghost use Rattle.gql_verdict.specs.DocumentEdits.{name_of, with_document};
 ghost use Rattle.gql_verdict.specs.NameFaults.{faults_of as faults_of_names};
 ghost use Rattle.gql_verdict.specs.NameViews.{KeepsNamesSound, titled};
 ghost use Rattle.gql_verdict.specs.NewNames as spec;
+ghost use Rattle.gql_verdict.specs.Spreads.{Names};
 
 use crate::definitions::definitions_in;
 use crate::names::faults_of;
@@ -14,6 +15,19 @@ use gql_facts::Fragments;
 use gql_types::{HasName, Named};
 use std::alloc::{AllocError, Global};
 
+/// Names that can be looked up.
+pub trait NameSet {
+    ghost names: { Self → Names };
+
+    /// Whether it is one of the names.
+    fn has(&self, name: &str) -> bool
+        ensures { IsTrue result ↔ Contains (names self.now) name.now };
+
+    /// Whether there are no names.
+    fn is_empty(&self) -> bool
+        ensures { IsTrue result ↔ (names self.now ≡ []) };
+}
+
 /// Whether none of these has a name.
 fn is_free<T: HasName>(all: &Named<T>, name: &str) -> bool
     ensures { IsTrue result ↔ spec.IsNoneOf (map T.name all.now) name.now }
@@ -21,15 +35,22 @@ fn is_free<T: HasName>(all: &Named<T>, name: &str) -> bool
     all.get(name).is_none()
 }
 
+/// Whether an operation of this name is none of these.
+fn is_new<O: NameSet>(operations: &O, name: &str) -> bool
+    ensures { IsTrue result ↔ spec.IsNoneOf (O.names operations.now) name.now }
+{
+    !operations.has(name)
+}
+
 /// Whether a definition is an operation or a fragment with a name, and none of its kind among these
 /// has it.
-fn has_new_name<O: HasName>(tree: &Tree, operations: &Named<O>, fragments: &Fragments) -> bool
-    ensures { IsTrue result ↔ spec.HasNewName (map O.name operations.now)
+fn has_new_name<O: NameSet>(tree: &Tree, operations: &O, fragments: &Fragments) -> bool
+    ensures { IsTrue result ↔ spec.HasNewName (O.names operations.now)
         (map name_of fragments.now.all) (titled tree.now) }
 {
     match tree {
         Tree::Operation(operation) => match &operation.get().name {
-            Some(name) => is_free(operations, name.as_str()),
+            Some(name) => is_new(operations, name.as_str()),
             None => false,
         },
         Tree::Fragment(fragment) => is_free(&fragments.all, fragment.get().name.as_str()),
@@ -38,12 +59,12 @@ fn has_new_name<O: HasName>(tree: &Tree, operations: &Named<O>, fragments: &Frag
 }
 
 /// Whether each of these definitions is such an operation or fragment.
-fn have_new_names<O: HasName>(
+fn have_new_names<O: NameSet>(
     definitions: &[Definition],
-    operations: &Named<O>,
+    operations: &O,
     fragments: &Fragments,
 ) -> bool
-    ensures { IsTrue result ↔ spec.HaveNewNames (map O.name operations.now)
+    ensures { IsTrue result ↔ spec.HaveNewNames (O.names operations.now)
         (map name_of fragments.now.all) definitions.now }
 {
     for definition in definitions {
@@ -69,23 +90,23 @@ fn are_sound_alone(alloc: Global, definitions: &[Definition]) -> Result<bool, Al
 /// operation with a name is there before, so that none is without one. If these rules found no fault
 /// before such an edit, they find none after it. Names are looked up among the operations and the
 /// fragments before it.
-pub fn brings_new_names<O: HasName>(
+pub fn brings_new_names<O: NameSet>(
     alloc: Global,
     files: &Files,
     name: &FileName,
     document: &Document,
-    operations: &Named<O>,
+    operations: &O,
     fragments: &Fragments,
 ) -> Result<bool, AllocError>
-    requires operations { map O.name operations.now
-        ≡ spec.names_of_operations (all_definitions files.now.documents) }
+    requires operations { spec.HaveSameNames (O.names operations.now)
+        (spec.names_of_operations (all_definitions files.now.documents)) }
     requires fragments { fragments.now.all ≡ fragments_of files.now.documents }
     ensures sound { IfOk result (λ brings. IsTrue brings → KeepsNamesSound files.now
         (with_document files.now name.now document.now)) }
     ensures exact { IfOk result (λ brings. IsTrue brings
         ↔ spec.BringsNewNames files.now.documents name.now document.now) }
 {
-    if files.documents.get(name).is_some() || operations.as_slice().is_empty() {
+    if files.documents.get(name).is_some() || operations.is_empty() {
         return Ok(false);
     }
     let definitions = document.definitions.as_slice();

@@ -10,7 +10,7 @@ fn fitted_places(alloc: Global, places: &[FilePlace]) -> Result<Items<FilePlace>
 {
     let mut fitted = Vec::with_capacity(alloc, places.len())?;
     for place in places {
-        fitted.push(place.copy())?;
+        fitted.push(place.copy()?)?;
     }
     Ok(Items::from_vec(fitted))
 }

@@ -16,7 +16,7 @@ ghost use Rattle.gql_verdict.specs.Slots.{IsSlotCertified, ids_of, slot_faults, 
 ghost use Rattle.gql_verdict.specs.Verdicts.{Judgement};
 ghost use Rattle.gql_verdict.specs.TouchedFacts.{ArePairsKnown, IsKnown};
 
-use crate::asked::has_reader_in;
+use crate::asked::{has_reader_in, kept_answer};
 use crate::indexing::index_after;
 use crate::marks::broken_marks;
 use crate::meter::Meter;
@@ -29,7 +29,7 @@ use gql_ast::{DefinitionId, Fault, Files, Shared};
 use gql_facts::{FragmentFact, Key, World};
 use gql_pairs::PairTable;
 use gql_readers::Index;
-use gql_reads::{KeptParts, Part};
+use gql_reads::{Answer, KeptParts, Part};
 use std::alloc::{AllocError, Global};
 use std::marker::Model;
 
@@ -70,7 +70,7 @@ fn add_reader(
     if !verdict.observes(key) {
         return Ok(());
     }
-    ids.push(Shared::new(alloc, verdict.def().id())?)?;
+    ids.push(Shared::new(alloc, verdict.def().id()?)?)?;
     Ok(())
 }
 
@@ -123,14 +123,21 @@ impl Model for Shelf {
 
 impl KeptParts for Shelf {
     fn part(&self, fragment: &FragmentFact) -> Option<&Part> {
+        let Ok(file) = fragment.file.copy() else {
+            return None;
+        };
         let id = DefinitionId {
-            file: fragment.file.copy(),
+            file,
             offset: fragment.fragment.get().place.offset,
         };
         match self.get(&id) {
             Some(verdict) => verdict.part(),
             None => None,
         }
+    }
+
+    fn answer(&self, key: &Key) -> Option<&Shared<Answer>> {
+        kept_answer(self.slots.as_slice(), &self.index, key)
     }
 }
 
@@ -334,7 +341,7 @@ impl Shelf {
             → IsCurrent facts definitions self.now.verdicts
             → Answers facts definitions id.now (option_copied result) }
     {
-        let Some(j) = find(self.slots.as_slice(), id) else {
+        let Some(j) = find(self.slots.as_slice(), &id.file, id.offset) else {
             return None;
         };
         match &self.slots[j] {

@@ -5,7 +5,7 @@ ghost use Rattle.gql_verdict.specs.FileOrder.{id_order};
 ghost use Rattle.gql_verdict.specs.Slots.{HasId, IsApart, IsFound, IsInOrder, resolve, slot_order};
 
 use crate::verdict::Verdict;
-use gql_ast::{Definition, DefinitionId, Same};
+use gql_ast::{Definition, FileName, Same};
 use std::cmp::Ordering;
 use std::mem;
 
@@ -24,12 +24,13 @@ impl Drop for Slot {
     }
 }
 
-/// The order of a definition, and of a name.
-fn definition_order(definition: &Definition, id: &DefinitionId) -> Ordering
-    ensures { result ≡ id_order (id_of definition.now) id.now }
+/// The order of a definition, and of the file and the offset of another.
+fn definition_order(definition: &Definition, file: &FileName, offset: usize) -> Ordering
+    ensures { result
+        ≡ id_order (id_of definition.now) (record { file = file.now; offset = offset }) }
 {
-    let by_file = definition.file.cmp(&id.file);
-    let by_place = definition.tree.place().offset.cmp(&id.offset);
+    let by_file = definition.file.cmp(file);
+    let by_place = definition.tree.place().offset.cmp(&offset);
     by_file.then(by_place)
 }
 
@@ -51,23 +52,25 @@ impl Slot {
         }
     }
 
-    /// The order of the definition in the slot, and of a name.
-    fn order_to(&self, id: &DefinitionId) -> Ordering
-        ensures { result ≡ slot_order self.now id.now }
+    /// The order of the definition in the slot, and of the file and the offset of another.
+    fn order_to(&self, file: &FileName, offset: usize) -> Ordering
+        ensures { result ≡ slot_order self.now (record { file = file.now; offset = offset }) }
     {
         match self {
-            Slot::Here(verdict) => definition_order(verdict.def(), id),
+            Slot::Here(verdict) => definition_order(verdict.def(), file, offset),
             Slot::At(_) => Ordering::Less,
         }
     }
 }
 
-/// The index of the verdict on the definition of a name.
-pub fn find(slots: &[Slot], id: &DefinitionId) -> Option<usize>
+/// The index of the verdict on the definition in a file, at an offset.
+pub fn find(slots: &[Slot], file: &FileName, offset: usize) -> Option<usize>
     requires { IsInOrder slots.now }
-    ensures { IsFound slots.now id.now result }
+    ensures { IsFound slots.now (record { file = file.now; offset = offset }) result }
 {
-    slots.binary_search_by(|slot| slot.order_to(id)).ok()
+    slots
+        .binary_search_by(|slot| slot.order_to(file, offset))
+        .ok()
 }
 
 /// Whether the verdict at an index is on the definition in the file and at the offset of this one.
@@ -90,7 +93,8 @@ pub fn find_near(slots: &[Slot], near: usize, definition: &Definition) -> Option
     if is_near(slots, near, definition) {
         return Some(near);
     }
-    find(slots, &definition.id())
+    let offset = definition.tree.place().offset;
+    find(slots, &definition.file, offset)
 }
 
 /// The verdict of a slot.

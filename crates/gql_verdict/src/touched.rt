@@ -105,7 +105,7 @@ impl Touched {
         add_file(before, &mut names)?;
         add_file(after, &mut names)?;
         Ok(Touched::File(FileEdit {
-            file: name.copy(),
+            file: name.copy()?,
             fragments: Named::new(alloc, names)?,
         }))
     }

@@ -33,7 +33,7 @@ fn check_definition(
 {
     if let Some(name) = type_system_name(&definition.tree) {
         let about = Text::from_str(alloc, name)?;
-        let owner = owner_of(definition);
+        let owner = owner_of(definition)?;
         add_fault(
             alloc,
             &owner,

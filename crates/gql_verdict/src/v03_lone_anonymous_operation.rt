@@ -47,7 +47,7 @@ fn check_definition(
 {
     if is_anonymous(&definition.tree) {
         let about = Text::from_str(alloc, "")?;
-        let owner = owner_of(definition);
+        let owner = owner_of(definition)?;
         add_fault(
             alloc,
             &owner,

@@ -16,14 +16,14 @@ use gql_single_root::{RootFault, single_root_faults};
 use std::alloc::{AllocError, Global};
 
 /// Where a fault is.
-fn place_of(fault: &RootFault) -> FilePlace
-    ensures { result ≡ spec.place_of fault.now }
+fn place_of(fault: &RootFault) -> Result<FilePlace, AllocError>
+    ensures { IfOk result (λ at. at ≡ spec.place_of fault.now) }
 {
-    FilePlace {
+    Ok(FilePlace {
         side: FileSide::Documents,
-        file: fault.file.copy(),
+        file: fault.file.copy()?,
         place: fault.place,
-    }
+    })
 }
 
 /// A fault as a report has it, where this is its owner.
@@ -31,12 +31,12 @@ fn fault_of(alloc: Global, owner: &FilePlace, fault: &RootFault) -> Result<Fault
     ensures { IfOk result (λ x. x ≡ spec.fault_of owner.now fault.now) }
 {
     let mut places = Items::new(alloc);
-    places.push(place_of(fault))?;
+    places.push(place_of(fault)?)?;
     Ok(Fault {
         rule: Rule::V30,
         about: fault.about.copy()?,
         places,
-        owner: Some(owner.copy()),
+        owner: Some(owner.copy()?),
     })
 }
 
@@ -70,7 +70,7 @@ pub fn root_faults<W: World>(
         Lists faults.items (spec.IsRootFault (W.facts world.old) definition.now)) }
 {
     let found = single_root_faults(alloc, world, definition, members)?;
-    let owner = owner_of(definition);
+    let owner = owner_of(definition)?;
     let faults = faults_of(alloc, &owner, found.as_slice())?;
     Ok(faults)
 }

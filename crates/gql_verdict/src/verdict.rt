@@ -254,6 +254,6 @@ pub fn examine<W: World, K: KeptParts>(
             reading,
         },
     )?;
-    meter.add(definition.id())?;
+    meter.add(definition.id()?)?;
     Ok(Verdict { held })
 }

@@ -64,7 +64,7 @@ impl State {
     fn add_verdicts(&mut self, registry: &Registry, name: &FileName, count: usize) -> Option<()> {
         for offset in 0..count {
             let id = DefinitionId {
-                file: name.copy(),
+                file: name.copy().ok()?,
                 offset,
             };
             if let Some(verdict) = registry.shelf().get(&id) {

@@ -1,6 +1,6 @@
 //! Steps on a registry: edits and runs.
 use crate::faults::add_faults;
-use gql_ast::{FileName, FileSide};
+use gql_ast::{FileName, FileSide, Profile};
 use gql_registry::{Edited, Refusal, Registry, Reply};
 use gql_verdict::Meter;
 use serde_json::Value;
@@ -41,6 +41,11 @@ fn side_of(word: &str) -> Option<FileSide> {
     }
 }
 
+/// A text as the name of a file.
+fn file_name(alloc: Global, text: &str) -> Option<FileName> {
+    FileName::read(alloc, text, Profile::whole_numbers().limits.name).ok()?
+}
+
 fn read_put(alloc: Global, rest: &str) -> Option<Step> {
     let (word, rest) = rest.split_once(" ")?;
     if word == "data" {
@@ -49,7 +54,7 @@ fn read_put(alloc: Global, rest: &str) -> Option<Step> {
     let (name, text) = rest.split_once(" ")?;
     Some(Step::Put {
         side: side_of(word)?,
-        name: FileName::read(name)?,
+        name: file_name(alloc, name)?,
         text: String::from_str(alloc, text).ok()?,
     })
 }
@@ -66,7 +71,7 @@ impl Step {
         match word {
             "remove" => Some(Step::Remove {
                 side: side_of(first)?,
-                name: FileName::read(second)?,
+                name: file_name(alloc, second)?,
             }),
             "run" => Some(Step::Run {
                 name: String::from_str(alloc, first).ok()?,
@@ -82,13 +87,13 @@ impl Step {
             Step::Put { side, name, text } => {
                 let bytes = text.as_str().as_bytes();
                 match side {
-                    FileSide::Schema => registry.put_schema(name.copy(), bytes, None, meter),
-                    FileSide::Documents => registry.put_document(name.copy(), bytes, None, meter),
+                    FileSide::Schema => registry.put_schema(name.copy()?, bytes, None, meter),
+                    FileSide::Documents => registry.put_document(name.copy()?, bytes, None, meter),
                 }
             }
             Step::Remove { side, name } => match side {
-                FileSide::Schema => registry.remove_schema(name.copy(), None, meter),
-                FileSide::Documents => registry.remove_document(name.copy(), None, meter),
+                FileSide::Schema => registry.remove_schema(name.copy()?, None, meter),
+                FileSide::Documents => registry.remove_document(name.copy()?, None, meter),
             },
             Step::PutData(text) => registry.put_data(text.as_str().as_bytes(), None, meter),
             Step::Run { name, variables } => {

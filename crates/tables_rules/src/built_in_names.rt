@@ -9,7 +9,7 @@ use table_rows::join;
 /// one.
 fn written_name(alloc: Global, definition: &Sited<Tree>) -> Option<String> {
     if let Some(file) = &definition.file {
-        return String::from_str(alloc, file.get().as_str()).ok();
+        return String::from_str(alloc, file.as_str()).ok();
     }
     match &definition.node {
         Tree::Type(definition) => String::from_str(alloc, definition.get().name.as_str()).ok(),

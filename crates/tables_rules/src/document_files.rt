@@ -3,6 +3,7 @@ ghost use Rattle.std.specs.Prelude.{IfOk, IfSome};
 ghost use Rattle.gql_parse_sdl.specs.Placed.{ArePlaced};
 ghost use Rattle.gql_verdict.specs.FileOrder.{AreFilesPlaced};
 
+use crate::inputs::file_name;
 use gql_ast::{Document, FileName, Files, Shared};
 use gql_grammar::SyntaxFault;
 use gql_parse_sdl::parse_any;
@@ -29,7 +30,10 @@ fn no_files(alloc: Global) -> Files
 fn document_in(alloc: Global, name: &FileName, text: &str) -> Result<Document, SyntaxFault>
     ensures { IfOk result (λ d. ArePlaced name.now d.definitions) }
 {
-    parse_any(alloc, name.copy(), text)
+    let Ok(name) = name.copy() else {
+        return Err(SyntaxFault::Memory);
+    };
+    parse_any(alloc, name, text)
 }
 
 /// The document file `d` with this text; no file if it is empty. `None` if it is not a document.
@@ -39,7 +43,7 @@ pub fn document_files(alloc: Global, text: &str) -> Option<Files>
     if text.is_empty() {
         return Some(no_files(alloc));
     }
-    let name = FileName::read("d")?;
+    let name = file_name(alloc, "d")?;
     let document = document_in(alloc, &name, text).ok()?;
     let document = Shared::new(alloc, document).ok()?;
     match one_file(alloc, name, document) {

@@ -1,7 +1,8 @@
 //! Questions about facts, and about what a definition reads. Each answer is `None` if the
 //! question is not well written.
 use crate::fact_words::{kind_in, written_fact, written_key};
-use gql_ast::{Document, FileMap, FileName, Shared, Text};
+use crate::inputs::file_name;
+use gql_ast::{Document, FileMap, Shared, Text};
 use gql_facts::{Fact, Fragments, Key, Present, Recorder, SchemaFacts, World, walk_reads};
 use gql_parse_sdl::parse_any;
 use gql_types::Schema;
@@ -11,8 +12,8 @@ use table_rows::join;
 
 /// A document file `d` with this text.
 pub fn documents_in(alloc: Global, text: &str) -> Option<FileMap<Shared<Document>>> {
-    let name = FileName::read("d")?;
-    let document = parse_any(alloc, name.copy(), text).ok()?;
+    let name = file_name(alloc, "d")?;
+    let document = parse_any(alloc, name.copy().ok()?, text).ok()?;
     let mut documents = FileMap::new(alloc);
     documents
         .put(name, Shared::new(alloc, document).ok()?)
@@ -85,7 +86,7 @@ fn walk_answer(alloc: Global, schema: &Schema, word: &str, text: &str) -> Option
         inner: &mut world,
         record: &mut record,
     };
-    let document = documents.get(&FileName::read("d")?)?.get();
+    let document = documents.get(&file_name(alloc, "d")?)?.get();
     let definition = document.definitions.as_slice().first()?;
     let walk = walk_reads(alloc, &mut recorder, definition).ok()?;
     if walk.keys.len() != record.len() {

@@ -1,6 +1,6 @@
 //! The parts of questions: types, literals, values of JSON, operations and schema files.
 use gql_ast::{
-    Document, Field, FileName, Files, Literal, Operation, Selection, Shared, Tree, TypeRef,
+    Document, Field, FileName, Files, Literal, Operation, Profile, Selection, Shared, Tree, TypeRef,
 };
 use gql_grammar::Cursor;
 use gql_parse::{ValueForm, parse, type_ref, value};
@@ -38,9 +38,14 @@ pub fn json_in(alloc: Global, text: &str) -> Option<Value> {
     Value::from_str(alloc, text).ok()
 }
 
+/// The text as the name of a file, if it is one.
+pub fn file_name(alloc: Global, text: &str) -> Option<FileName> {
+    FileName::read(alloc, text, Profile::whole_numbers().limits.name).ok()?
+}
+
 /// The executable document that a text writes.
 pub fn document_in(alloc: Global, text: &str) -> Option<Document> {
-    parse(alloc, FileName::read("q")?, text).ok()
+    parse(alloc, file_name(alloc, "q")?, text).ok()
 }
 
 /// The first definition of a document, if it is an operation.
@@ -61,7 +66,7 @@ pub fn field_of(operation: &Operation) -> Option<&Field> {
 
 /// Puts a schema file; `None` if its text is not one.
 pub fn put_file(alloc: Global, files: &mut Files, name: &FileName, text: &str) -> Option<()> {
-    let document = parse_sdl(alloc, name.copy(), text).ok()?;
+    let document = parse_sdl(alloc, name.copy().ok()?, text).ok()?;
     let document = Shared::new(alloc, document).ok()?;
-    files.schema.put(name.copy(), document).ok()
+    files.schema.put(name.copy().ok()?, document).ok()
 }

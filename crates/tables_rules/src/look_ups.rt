@@ -17,7 +17,7 @@ fn nothing(alloc: Global) -> Option<String> {
 fn site(alloc: Global, file: &SourceFile, place: &Place) -> Option<String> {
     match file {
         Some(file) => {
-            let file = file.get().as_str();
+            let file = file.as_str();
             let line = place.line;
             let column = place.column;
             format!(in alloc; "{file} {line}:{column}").ok()

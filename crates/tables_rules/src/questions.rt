@@ -1,13 +1,13 @@
 //! Questions about schema files.
 use crate::built_in_names::built_in_answer;
 use crate::facts::facts_answer;
-use crate::inputs::put_file;
+use crate::inputs::{file_name, put_file};
 use crate::look_ups::look_up_answer;
 use crate::reports::{report_answer, verdicts_answer};
 use crate::root_fields::root_fields_answer;
 use crate::rule_groups::{Rules, operations_answer};
 use crate::values::value_answer;
-use gql_ast::{FileName, Files, Profile};
+use gql_ast::{Files, Profile};
 use gql_types::{Schema, assemble};
 use gql_verdict::Shelf;
 use std::alloc::{AllocError, Global};
@@ -17,7 +17,7 @@ use table_rows::{Given, NamedText, Row};
 fn files_of(alloc: Global, profile: Profile, texts: &[NamedText]) -> Option<Files> {
     let mut files = Files::of(alloc, profile);
     for named in texts {
-        let name = FileName::read(named.name.as_str())?;
+        let name = file_name(alloc, named.name.as_str())?;
         put_file(alloc, &mut files, &name, named.text.as_str())?;
     }
     Some(files)

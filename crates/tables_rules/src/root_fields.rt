@@ -1,6 +1,7 @@
 //! The faults of subscriptions by the rule on their root fields, V30.
 use crate::facts::documents_in;
-use gql_ast::{Definition, FileName};
+use crate::inputs::file_name;
+use gql_ast::Definition;
 use gql_facts::{Fragments, Present, SchemaFacts, walk_reads};
 use gql_single_root::{RootFault, single_root_faults};
 use gql_types::Schema;
@@ -45,7 +46,7 @@ pub fn root_fields_answer(alloc: Global, schema: &Schema, text: &str) -> Option<
     let documents = documents_in(alloc, text)?;
     let fragments = Fragments::new(alloc, &documents).ok()?;
     let mut world = Present::new(&facts, &fragments);
-    let document = documents.get(&FileName::read("d")?)?.get();
+    let document = documents.get(&file_name(alloc, "d")?)?.get();
     let mut written = String::new(alloc);
     for definition in document.definitions.as_slice() {
         add_faults(alloc, &mut world, definition, &mut written)?;

@@ -2,7 +2,8 @@
 //! rules on variables or by those on the merging of fields.
 use crate::facts::documents_in;
 use crate::faults::written_faults;
-use gql_ast::{Definition, Document, Fault, FileName, Shared};
+use crate::inputs::file_name;
+use gql_ast::{Definition, Document, Fault, Shared};
 use gql_facts::{Fragments, Present, SchemaFacts, walk_reads};
 use gql_merge::merge_faults;
 use gql_report::in_order;
@@ -66,7 +67,7 @@ pub fn operations_answer(
     let documents = documents_in(alloc, text)?;
     let fragments = Fragments::new(alloc, &documents).ok()?;
     let mut world = Present::new(&facts, &fragments);
-    let document = documents.get(&FileName::read("d")?)?.get();
+    let document = documents.get(&file_name(alloc, "d")?)?.get();
     let faults = all_faults(alloc, &mut world, rules, document)?;
     let report = in_order(alloc, faults).ok()?;
     written_faults(alloc, report.as_slice()).ok()

@@ -2,8 +2,9 @@
 //! examines.
 use crate::clashes::written_pair;
 use crate::faults::written_faults;
+use crate::profiles::file_name;
 use crate::running::run_step;
-use gql_ast::{DefinitionId, FileName, Shared, Text};
+use gql_ast::{DefinitionId, Shared, Text};
 use gql_facts::Key;
 use gql_registry::{Edited, Refusal, Registry};
 use gql_verdict::Meter;
@@ -93,7 +94,7 @@ impl Editing {
     fn put(&mut self, rest: &str) -> Option<String> {
         let (side, rest) = rest.split_once(" ")?;
         let (name, text) = rest.split_once(" ")?;
-        let name = FileName::read(name)?;
+        let name = file_name(self.alloc, name)?;
         let mut meter = Meter::new(self.alloc);
         let bytes = text.as_bytes();
         let edited = match side {
@@ -107,7 +108,7 @@ impl Editing {
     /// Removes the file that `SIDE NAME` says.
     fn remove(&mut self, rest: &str) -> Option<String> {
         let (side, name) = rest.split_once(" ")?;
-        let name = FileName::read(name)?;
+        let name = file_name(self.alloc, name)?;
         let mut meter = Meter::new(self.alloc);
         let edited = match side {
             "schema" => self.registry.remove_schema(name, None, &mut meter),
@@ -121,7 +122,7 @@ impl Editing {
     fn verdict(&self, rest: &str) -> Option<String> {
         let (file, offset) = rest.split_once(" ")?;
         let id = DefinitionId {
-            file: FileName::read(file)?,
+            file: file_name(self.alloc, file)?,
             offset: offset.parse::<usize>().ok()?,
         };
         match self.registry.shelf().get(&id) {

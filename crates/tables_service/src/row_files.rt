@@ -1,7 +1,8 @@
 //! The registry with the files of a row.
 use crate::faults::written_faults;
+use crate::profiles::file_name;
 use crate::running::only_run;
-use gql_ast::{FileName, Profile};
+use gql_ast::Profile;
 use gql_parse_sdl::{parse_any, parse_sdl};
 use gql_registry::Registry;
 use gql_verdict::Meter;
@@ -19,7 +20,7 @@ pub struct RowFiles {
 
 /// Whether a parser takes a text: `sdl`, of schema files, or `any`, of files of any definitions.
 pub fn parser_answer(alloc: Global, parser: &str, text: &str) -> Option<String> {
-    let name = FileName::read("s")?;
+    let name = file_name(alloc, "s")?;
     let is_accepted = match parser {
         "sdl" => parse_sdl(alloc, name, text).is_ok(),
         _ => parse_any(alloc, name, text).is_ok(),
@@ -45,7 +46,7 @@ impl RowFiles {
     /// Puts schema files; `None` if the registry refuses one.
     fn put_all(&mut self, texts: &[NamedText]) -> Option<()> {
         for named in texts {
-            let name = FileName::read(named.name.as_str())?;
+            let name = file_name(self.alloc, named.name.as_str())?;
             let mut meter = Meter::new(self.alloc);
             let bytes = named.text.as_str().as_bytes();
             self.registry
@@ -65,8 +66,9 @@ impl RowFiles {
         if !given.document.is_empty() {
             let mut meter = Meter::new(self.alloc);
             let bytes = given.document.as_str().as_bytes();
+            let name = file_name(self.alloc, "d")?;
             self.registry
-                .put_document(FileName::read("d")?, bytes, None, &mut meter)
+                .put_document(name, bytes, None, &mut meter)
                 .ok()?;
         }
         Some(())

@@ -1,6 +1,6 @@
 //! Runs of stored operations on one registry: what each answers.
 use crate::faults::written_faults;
-use gql_ast::FileName;
+use crate::profiles::file_name;
 use gql_registry::{Edited, Refusal, Registry, Reply};
 use gql_verdict::Meter;
 use serde_json::Value;
@@ -67,10 +67,10 @@ fn put(alloc: Global, registry: &mut Registry, rest: &str) -> Option<String> {
     let edited = match word {
         "schema" => {
             *registry = Registry::new(alloc);
-            registry.put_schema(FileName::read("s")?, text.as_bytes(), None, &mut meter)
+            registry.put_schema(file_name(alloc, "s")?, text.as_bytes(), None, &mut meter)
         }
         "document" => {
-            registry.put_document(FileName::read("d")?, text.as_bytes(), None, &mut meter)
+            registry.put_document(file_name(alloc, "d")?, text.as_bytes(), None, &mut meter)
         }
         "data" => {
             let text = with_times(alloc, text)?;
@@ -121,7 +121,7 @@ fn run_many(alloc: Global, registry: &mut Registry, count: &str) -> Option<Strin
     let text = many_operations(alloc, count)?;
     let length = text.len();
     let mut meter = Meter::new(alloc);
-    let put = registry.put_document(FileName::read("d")?, text.as_bytes(), None, &mut meter);
+    let put = registry.put_document(file_name(alloc, "d")?, text.as_bytes(), None, &mut meter);
     if put.is_err() {
         return written_edit(alloc, put);
     }

@@ -23,7 +23,7 @@ fn write_copy(text: &mut String, definition: &Definition) -> Option<()> {
     if !copy.same(definition) {
         return text.push_str("another").ok();
     }
-    let id = copy.id();
+    let id = copy.id().ok()?;
     let file = id.file.as_str();
     let offset = id.offset;
     write!(text, "{file} {offset}").ok()

@@ -1,4 +1,5 @@
 //! Files that are put, found and removed, step after step.
+use crate::file_names::{LONGEST, file_name};
 use crate::steps::{Stepped, parts_of, steps_answer, yes_or_no};
 use gql_ast::{Document, FileName, Files, Items, Shared};
 use std::alloc::Global;
@@ -26,14 +27,20 @@ impl Stepped for Kept {
         let (word, rest) = parts_of(step);
         match word {
             "put" => {
-                self.put(alloc, FileName::read(rest)?)?;
+                self.put(alloc, file_name(alloc, rest, LONGEST)?)?;
                 String::from_str(alloc, "put").ok()
             }
             "take" => {
-                let taken = self.files.documents.remove(&FileName::read(rest)?);
+                let taken = self
+                    .files
+                    .documents
+                    .remove(&file_name(alloc, rest, LONGEST)?);
                 yes_or_no(alloc, taken.is_some())
             }
-            "has" => yes_or_no(alloc, self.files.documents.has(&FileName::read(rest)?)),
+            "has" => yes_or_no(
+                alloc,
+                self.files.documents.has(&file_name(alloc, rest, LONGEST)?),
+            ),
             "count" => {
                 let count = self.files.documents.len();
                 format!(in alloc; "{count}").ok()
@@ -42,7 +49,10 @@ impl Stepped for Kept {
                 self.copy = self.files.copy().ok()?;
                 String::from_str(alloc, "copied").ok()
             }
-            "copy-has" => yes_or_no(alloc, self.copy.documents.has(&FileName::read(rest)?)),
+            "copy-has" => yes_or_no(
+                alloc,
+                self.copy.documents.has(&file_name(alloc, rest, LONGEST)?),
+            ),
             _ => None,
         }
     }

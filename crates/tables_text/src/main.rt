@@ -11,6 +11,7 @@ mod cursors;
 mod cycles;
 mod documents;
 mod file_maps;
+mod file_names;
 mod levels;
 mod numbered_sets;
 mod parsers;

@@ -1,4 +1,5 @@
 //! What parsers answer, as the table writes it.
+use crate::file_names::{LONGEST, file_name};
 use gql_ast::{Document, FileName};
 use gql_grammar::SyntaxFault;
 use gql_parse::{parse, parse_tokens};
@@ -21,7 +22,7 @@ fn parsed_tokens(alloc: Global, file: &FileName, text: &str) -> Result<Document,
 /// What a parser answers to a text: `doc`, of executable documents, or `doc-tokens`, of the tokens
 /// of one; `sdl`, of schema files; `any`, of files of any definitions.
 pub fn parsed(alloc: Global, parser: &str, text: &str) -> Option<Result<Document, SyntaxFault>> {
-    let file = FileName::read("s")?;
+    let file = file_name(alloc, "s", LONGEST)?;
     match parser {
         "doc" => Some(parse(alloc, file, text)),
         "doc-tokens" => Some(parsed_tokens(alloc, &file, text)),

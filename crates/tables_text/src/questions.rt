@@ -5,23 +5,15 @@ use crate::cursors::cursor_answer;
 use crate::cycles::{names_on_cycles_answer, nodes_on_cycles_answer};
 use crate::documents::{copies_answer, cuts_answer, same_answer};
 use crate::file_maps::files_answer;
+use crate::file_names::name_answer;
 use crate::levels::{placed_answer, visited_answer};
 use crate::parsers::parser_answer;
 use crate::peers::{device_answer, peer_answer};
 use crate::streams::requests_answer;
 use crate::tokens::{count_answer, count_within_answer, end_answer, tokens_answer, value_answer};
 use crate::trees::trees_answer;
-use gql_ast::FileName;
 use std::alloc::{AllocError, Global};
 use table_rows::{Given, Row};
-
-/// A text as the name of a file.
-fn name_answer(alloc: Global, text: &str) -> Option<String> {
-    match FileName::read(text) {
-        Some(name) => String::from_str(alloc, name.as_str()).ok(),
-        None => String::from_str(alloc, "no name").ok(),
-    }
-}
 
 /// The answer to a question about a text of GraphQL, by its first word; `None` if there is no such
 /// question, or where it is not well written.
@@ -35,7 +27,7 @@ fn text_answer(alloc: Global, text: &str, word: &str, rest: &str) -> Option<Stri
         "end" => end_answer(alloc, text).ok(),
         "visited" => visited_answer(alloc, text),
         "placed" => placed_answer(alloc, text, rest),
-        "name" => name_answer(alloc, text),
+        "name" => name_answer(alloc, text, rest),
         "same" => same_answer(alloc, text, rest),
         "trees" => trees_answer(alloc, text, rest),
         "copies" => copies_answer(alloc, text, rest),

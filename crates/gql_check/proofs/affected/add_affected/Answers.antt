@@ -13,5 +13,5 @@ pub returns-clause-added : goal.returns-clause-added
 returns-clause-added g c =
     ok_then c.add_against.result c.add_against.ensures (λ e.
     operation_more c.args.places.now (g.W.World.facts c.args.world.now) (owns c.args.owners.now) c.args.definition.now c.in-Operation.operation c.spot-spot.result c.in_ok-against.against
-    c.args.affected.now.items c.add_against.new.affected.items c.in-Operation.is (c.spot-spot.ensures ∙ ap (spot_of c.args.places.now) c.start_of.ensures) c.in_ok-against.ensures.against
+    c.args.affected.now.items c.add_against.new.affected.items c.in-Operation.is (c.spot-spot.ensures ∙ ap (spot_of c.args.places.now) c.in_ok-start.ensures) c.in_ok-against.ensures.against
     (e ∙ ap (λ o. c.args.affected.now.items ++ against_in o c.spot-spot.result c.in_ok-against.against) c.get.ensures))

@@ -18,5 +18,5 @@ returns c =
     let d = c.in-Some-find_at.definition.now in
     subst (λ o. IsOwnerAt c.args.places.now ds o (Some (record { owner = c.in_ok-owner_of.field-0; spot = c.spot.result }))) (sym c.in-Some.is)
     (subst (λ w. IsOwnerAt c.args.places.now ds (Some c.in-Some.place) (Some (record { owner = w; spot = c.spot.result }))) (sym c.in_ok-owner_of.ensures)
-    (subst (λ s. IsOwnerAt c.args.places.now ds (Some c.in-Some.place) (Some (record { owner = owner_of d.tree; spot = s }))) (sym (c.spot.ensures ∙ ap (spot_of c.args.places.now) c.start_of.ensures))
+    (subst (λ s. IsOwnerAt c.args.places.now ds (Some c.in-Some.place) (Some (record { owner = owner_of d.tree; spot = s }))) (sym (c.spot.ensures ∙ ap (spot_of c.args.places.now) c.in_ok-start.ensures))
     (found d c.in-Some-find_at.ensures.0 c.in-Some-find_at.ensures.1)))

@@ -3,4 +3,4 @@ use Rattle.gql_manifest.specs.Joining.{AreApart}
 use Rattle.gql_manifest.proofs.joined.stay_apart.Given as goal
 
 abbrev pub invariant-loop-one : goal.invariant-loop-one
-invariant-loop-one l = AreApart l.files (take l.one-index l.made)
+invariant-loop-one l = AreApart l.most l.files (take l.one-index l.made)

@@ -75,8 +75,8 @@ returns-clause-found g c =
     lists_of (g.W.World.facts c.args.world.now) _ (g.met.W.World.is_world c.args.world.now) c.args.definition.now c.args.members.now c.requires.members
     c.args.own.items c.add_members.new.sets.items c.as_slice.result.now (λ q. hash.get_by (λ k. bytes_eq q k.now) c.in_ok-fragments.fragments) c.as_slice.ensures.value c.requires.own c.in_ok-fragments.ensures.added
     c.numbered_sets.new.all.items c.in_ok-numbered.numbered c.in_ok-numbered.ensures c.args.first c.as_slice-2.result.now (c.as_slice-2.ensures.value ∙ c.in_ok-seeds.ensures) c.requires.first
-    c.in_ok-pairs.pairs.items c.as_slice-5.result.now c.as_slice-4.result.now c.owner_of-owner.result c.in_ok-faults.faults.items
-    c.in_ok-pairs.ensures c.as_slice-5.ensures.value c.as_slice-4.ensures.value c.owner_of-owner.ensures c.in_ok-faults.ensures
+    c.in_ok-pairs.pairs.items c.as_slice-5.result.now c.as_slice-4.result.now c.in_ok-owner.owner c.in_ok-faults.faults.items
+    c.in_ok-pairs.ensures c.as_slice-5.ensures.value c.as_slice-4.ensures.value c.in_ok-owner.ensures c.in_ok-faults.ensures
 
 pub returns-in_err-add_spread-clause-kept : goal.returns-in_err-add_spread-clause-kept
 returns-in_err-add_spread-clause-kept g c = c.add_spread.ensures.kept

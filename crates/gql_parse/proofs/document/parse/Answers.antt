@@ -15,8 +15,8 @@ returns-in-Ok-clause-refused c number place is =
     let lexed : IsLexed text_limit c.args.source.now (map lexeme c.as_slice.result.now) = rw c.as_slice.ensures.value c.in-Ok.ensures.tokens in
     source_refused (executable c.args.file) text_limit c.args.source.now (map lexeme c.as_slice.result.now) c.parse_looked_at.result c.end_place.result lexed c.end_place.ensures c.parse_looked_at.ensures number place is
 
-pub returns-in-Err-clause-refused : goal.returns-in-Err-clause-refused
-returns-in-Err-clause-refused c number place is =
+pub returns-clause-refused : goal.returns-clause-refused
+returns-clause-refused c number place is =
     lexer_refused (executable c.args.file) text_limit c.args.source.now c.in-Err.fault c.in-Err.ensures.fault c.of.result c.of.ensures number place is
 
 pub returns-in-Ok-clause-complete : goal.returns-in-Ok-clause-complete
@@ -29,8 +29,8 @@ returns-in-Ok-clause-faulty c fault told =
     let lexed : IsLexed text_limit c.args.source.now (map lexeme c.as_slice.result.now) = rw c.as_slice.ensures.value c.in-Ok.ensures.tokens in
     refused_source (executable c.args.file) text_limit c.args.source.now (map lexeme c.as_slice.result.now) c.parse_looked_at.result c.end_place.result lexed c.end_place.ensures c.parse_looked_at.ensures fault told
 
-pub returns-in-Err-clause-complete : goal.returns-in-Err-clause-complete
-returns-in-Err-clause-complete c d told = lexer_complete (executable c.args.file) text_limit c.args.source.now c.in-Err.fault c.in-Err.ensures.fault c.of.result c.of.ensures d told
+pub returns-clause-complete : goal.returns-clause-complete
+returns-clause-complete c d told = lexer_complete (executable c.args.file) text_limit c.args.source.now c.in-Err.fault c.in-Err.ensures.fault c.of.result c.of.ensures d told
 
-pub returns-in-Err-clause-faulty : goal.returns-in-Err-clause-faulty
-returns-in-Err-clause-faulty c fault told = lexer_faulty (executable c.args.file) text_limit c.args.source.now c.in-Err.fault c.in-Err.ensures.fault c.of.result c.of.ensures fault told
+pub returns-clause-faulty : goal.returns-clause-faulty
+returns-clause-faulty c fault told = lexer_faulty (executable c.args.file) text_limit c.args.source.now c.in-Err.fault c.in-Err.ensures.fault c.of.result c.of.ensures fault told

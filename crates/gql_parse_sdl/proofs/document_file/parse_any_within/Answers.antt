@@ -18,9 +18,9 @@ returns-in-Ok-clause-refused c number place is =
     let lexed : IsLexed c.args.limit c.args.source.now (map lexeme c.as_slice.result.now) = rw c.as_slice.ensures.value c.in-Ok.ensures.tokens in
     source_refused (document_file c.args.file) c.args.limit c.args.source.now (map lexeme c.as_slice.result.now) c.from_tokens.result c.end_place.result lexed c.end_place.ensures c.from_tokens.ensures.parses number place is
 
-pub returns-in-Err-clause-refused : goal.returns-in-Err-clause-refused
+pub returns-clause-refused : goal.returns-clause-refused
 unfolding IsDocumentFile IsDocumentFault
-returns-in-Err-clause-refused c number place is =
+returns-clause-refused c number place is =
     lexer_refused (document_file c.args.file) c.args.limit c.args.source.now c.in-Err.fault c.in-Err.ensures.fault c.of.result c.of.ensures number place is
 
 pub returns-in-Ok-clause-complete : goal.returns-in-Ok-clause-complete
@@ -35,13 +35,13 @@ returns-in-Ok-clause-faulty c fault told =
     let lexed : IsLexed c.args.limit c.args.source.now (map lexeme c.as_slice.result.now) = rw c.as_slice.ensures.value c.in-Ok.ensures.tokens in
     refused_source (document_file c.args.file) c.args.limit c.args.source.now (map lexeme c.as_slice.result.now) c.from_tokens.result c.end_place.result lexed c.end_place.ensures c.from_tokens.ensures.parses fault told
 
-pub returns-in-Err-clause-complete : goal.returns-in-Err-clause-complete
+pub returns-clause-complete : goal.returns-clause-complete
 unfolding IsDocumentFile IsDocumentFault
-returns-in-Err-clause-complete c d told = lexer_complete (document_file c.args.file) c.args.limit c.args.source.now c.in-Err.fault c.in-Err.ensures.fault c.of.result c.of.ensures d told
+returns-clause-complete c d told = lexer_complete (document_file c.args.file) c.args.limit c.args.source.now c.in-Err.fault c.in-Err.ensures.fault c.of.result c.of.ensures d told
 
-pub returns-in-Err-clause-faulty : goal.returns-in-Err-clause-faulty
+pub returns-clause-faulty : goal.returns-clause-faulty
 unfolding IsDocumentFile IsDocumentFault
-returns-in-Err-clause-faulty c fault told = lexer_faulty (document_file c.args.file) c.args.limit c.args.source.now c.in-Err.fault c.in-Err.ensures.fault c.of.result c.of.ensures fault told
+returns-clause-faulty c fault told = lexer_faulty (document_file c.args.file) c.args.limit c.args.source.now c.in-Err.fault c.in-Err.ensures.fault c.of.result c.of.ensures fault told
 
 pub from_tokens-requires : goal.from_tokens-requires
 from_tokens-requires c =

@@ -4,7 +4,7 @@ use Rattle.gql_facts.specs.Reads.{types_in}
 use Rattle.gql_facts.specs.Worlds.{Facts}
 use Rattle.gql_facts.specs.declared.key.Key.TheVariants as key
 use Rattle.gql_reads.specs.Closings.{add_names}
-use Rattle.gql_reads.specs.Leading.{LeadsTo, names_in}
+use Rattle.gql_reads.specs.Leading.{AreTypes, LeadsTo, names_in}
 use Rattle.gql_reads.specs.Observations.{Hold, about}
 use Rattle.gql_reads.specs.declared.observation.TypeAnswers.{TypeAnswers}
 use Rattle.gql_reads.proofs.Led.{leading_end, leading_first, leading_more, names_left}
@@ -19,6 +19,7 @@ walk-init g c =
       same_facts = refl;
       same_names = refl;
       same_lent = refl;
+      known = c.requires;
       walked = leading_first (g.W.World.facts c.args.world.now) c.args.fact.now c.new-names.result.keys c.add_named.new.names.keys c.new-types.result.items none no_types c.in_ok-add_named.ensures;
     }
 
@@ -41,6 +42,7 @@ walk-preserved g c =
       same_facts = c.visit.ensures.facts ∙ same;
       same_names = c.visit.ensures.names ∙ c.walk.invariant.same_names;
       same_lent = c.visit.ensures.lent ∙ c.walk.invariant.same_lent;
+      known = subst (λ (G : Facts). AreTypes G c.visit.new.known.entries) same c.visit.ensures.known;
       walked = leading_more F c.args.fact.now c.walk.at c.walk.names.keys c.visit.new.names.keys c.walk.types.items c.visit.new.types.items m.0 t.0
           c.walk.invariant.walked lt m.1 named t.1 t.2 (subst (λ (G : Facts). Hold G (about t.0)) same t.3);
     }

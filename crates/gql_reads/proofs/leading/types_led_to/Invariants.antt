@@ -1,5 +1,6 @@
 use Rattle.std.proofs.Common.{◌≡◌, ◌-◌, length}
 use Rattle.gql_reads.specs.Closings.{IsLeading}
+use Rattle.gql_reads.specs.Leading.{AreTypes}
 use Rattle.gql_reads.proofs.Led.{nameable}
 use Rattle.gql_reads.proofs.leading.types_led_to.Given as goal
 
@@ -10,6 +11,7 @@ invariant-walk g l =
       same_facts : g.W.World.facts l.world ≡ F;
       same_names : g.W.World.names l.world ≡ g.W.World.names l.fn.world;
       same_lent : g.W.World.lent l.world ≡ g.W.World.lent l.fn.world;
+      known : AreTypes F l.known.entries;
       walked : IsLeading F l.fact l.at l.names.keys l.types.items;
     }
 

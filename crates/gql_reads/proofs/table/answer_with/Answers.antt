@@ -15,6 +15,6 @@ returns-clause-answer g c =
     let led : Lists (names_in c.from_vec.result) (LeadsTo F c.args.fact) = subst (λ (ts : List TypeAnswers). Lists (names_in ts) (LeadsTo F c.args.fact)) kept c.in_ok-types.ensures.led in
     record {
       key = refl;
-      hold = answer_held F (record { observation = record { key = c.args.key; fact = c.args.fact }; types = c.from_vec.result }) (sym c.requires) hold;
+      hold = answer_held F (record { observation = record { key = c.args.key; fact = c.args.fact }; types = c.from_vec.result }) (sym c.requires.right) hold;
       led = led_everywhere F (record { observation = record { key = c.args.key; fact = c.args.fact }; types = c.from_vec.result }) hold led;
     }

@@ -22,6 +22,10 @@ returns-then-not-has_room-clause-err c = λ s same time.
       refl,
     )
 
+pub returns-in_err-copy-clause-err : goal.returns-in_err-copy-clause-err
+returns-in_err-copy-clause-err c =
+    err_of (IsFileRefusal c.args.side c.args.name.now c.args.bytes.now c.args.files.now) _ _ c.from_residual-in_err-copy.ensures.1 (λ s same time. refl)
+
 pub returns-in_err-put_on-clause-err : goal.returns-in_err-put_on-clause-err
 returns-in_err-put_on-clause-err c =
     err_of (IsFileRefusal c.args.side c.args.name.now c.args.bytes.now c.args.files.now) _ _ c.from_residual-in_err-put_on.ensures.1 (λ s same time. refl)
@@ -37,5 +41,5 @@ returns-clause-put c = record {
       (λ f bad. apart_on c.one_answer.ensures.apart c.one_document_answer.ensures.apart c.args.side c.args.name.now c.args.bytes.now _ f c.in_ok-document.ensures.read.file bad)
       (subst (λ (f : Files). file_named (files_on c.args.side s.files) c.args.name.now ≡ None → f.profile.limits.files ≤ length (files_on c.args.side s.files) → ⊥) (sym same)
       (subst (λ fs. file_named fs c.args.name.now ≡ None → c.args.files.now.profile.limits.files ≤ length fs → ⊥) at (room (file_named c.files_on.result.now c.args.name.now) (length c.files_on.result.now) c.args.files.now.profile.limits.files (sym c.if-not-has_room.ensures))));
-  is = rw c.copy.ensures at c.in_ok-put_on.ensures;
+  is = rw c.in_ok-copy.ensures at c.in_ok-put_on.ensures;
 }

@@ -22,18 +22,22 @@ returns-in_default-clause-err c = λ s expected p t.
       refl,
     )
 
+pub returns-in_err-name-clause-err : goal.returns-in_err-name-clause-err
+returns-in_err-name-clause-err c =
+    err_of (IsUnread c.args.profile c.args.side c.args.name.now c.args.bytes.now) _ _ c.from_residual.ensures.1 (λ s expected p t. refl)
+
 pub returns-in_err-document-clause-err : goal.returns-in_err-document-clause-err
 returns-in_err-document-clause-err c =
-    err_of (IsUnread c.args.profile c.args.side c.args.name.now c.args.bytes.now) _ _ c.from_residual.ensures.1 (λ s expected p t.
+    err_of (IsUnread c.args.profile c.args.side c.args.name.now c.args.bytes.now) _ _ c.from_residual-in_err-document.ensures.1 (λ s expected p t.
     let limit = c.limit_on-limit.ensures ∙ ap (λ (q : Profile). limit_on q c.args.side) (sym p) in
     first_syntax s expected c.args.side c.args.name.now c.args.bytes.now c.in_err-document.field-0.0 t.present t.left
     (subst (λ n. length c.args.bytes.now ≤ n) limit c.if-bytes-limit.false) (search rules)
-    (λ number place is. rw (c.copy.ensures, c.in-Ok.ensures.cases.0) at (c.in_err-document.ensures.refused number place (ap Err is))))
+    (λ number place is. rw (c.in_ok-name.ensures, c.in-Ok.ensures.cases.0) at (c.in_err-document.ensures.refused number place (ap Err is))))
 
 pub returns-clause-read : goal.returns-clause-read
 returns-clause-read c = record {
   short = subst (λ n. length c.args.bytes.now ≤ n) c.limit_on-limit.ensures c.if-bytes-limit.false;
   text = search rules;
-  file = rw (c.copy.ensures, c.in-Ok.ensures.cases.0) at c.in_ok-document.ensures.accepted;
-  placed = rw c.copy.ensures at c.in_ok-document.ensures.placed;
+  file = rw (c.in_ok-name.ensures, c.in-Ok.ensures.cases.0) at c.in_ok-document.ensures.accepted;
+  placed = rw c.in_ok-name.ensures at c.in_ok-document.ensures.placed;
 }

@@ -8,6 +8,6 @@ returns-clause-found g c =
     let F = g.W.World.facts c.args.world.now in
     let d = c.args.definition.now in
     lists F d _ _
-    (c.in_ok-check_parts.ensures.found ∙ ap (λ l. l ++ tree_faults F c.owner_of-owner.result d.tree) c.new-faults.ensures.items
-    ∙ ap (λ o. tree_faults F o d.tree) c.owner_of-owner.ensures)
+    (c.in_ok-check_parts.ensures.found ∙ ap (λ l. l ++ tree_faults F c.in_ok-owner.owner d.tree) c.new-faults.ensures.items
+    ∙ ap (λ o. tree_faults F o d.tree) c.in_ok-owner.ensures)
     (c.in_ok-check_cycle.ensures F c.requires)

@@ -26,7 +26,7 @@ returns-then-not-is_any_among-clause-owned g c = λ owners.
     all_reached facts d members c.in_ok-walk.ensures.members c.args.faults.now c.new-then-not-is_any_among.result.items
     (none_of (IsOwnedAmong places) c.args.faults.now c.new-then-not-is_any_among.result.items
     (none_owned places c.args.faults.now (contains same_place c.args.owners.now.places) owners
-    (sym (c.is_any_among.ensures ∙ ap (λ (l : List FilePlace). list_any (contains same_place c.args.owners.now.places) l) same) ∙ c.if-not-is_any_among.true))
+    (sym (c.in_ok-is_any_among.ensures ∙ ap (λ (l : List FilePlace). list_any (contains same_place c.args.owners.now.places) l) same) ∙ c.if-not-is_any_among.true))
     c.new-then-not-is_any_among.ensures.items)
 
 pub returns-clause-owned : goal.returns-clause-owned

@@ -10,15 +10,15 @@ loop-fault-init c = none_picked (IsOwnedAmong c.args.places.now) [] c.new-owned.
 pub loop-fault-preserved : goal.loop-fault-preserved
 loop-fault-preserved c =
     let P = IsOwnedAmong c.args.places.now in
-    let is = subst (λ f. IsTrue c.is_owned.result ↔ IsOwnedAmong c.args.places.now f) c.get.ensures (c.is_owned.ensures c.in_ok-owners.ensures) in
+    let is = subst (λ f. IsTrue c.in_ok-is_owned.is_owned ↔ IsOwnedAmong c.args.places.now f) c.get.ensures (c.in_ok-is_owned.ensures c.in_ok-owners.ensures) in
     elim c.if-is_owned.branch [
       | then-is_owned+in_ok-clone+in_ok-push w ↦
-          one_picked P c.args.faults.now c.loop-fault.fault-index c.fault-item.result c.is_owned.result c.loop-fault.owned.items c.if-is_owned.owned.items
+          one_picked P c.args.faults.now c.loop-fault.fault-index c.fault-item.result c.in_ok-is_owned.is_owned c.loop-fault.owned.items c.if-is_owned.owned.items
           c.loop-fault-test.true c.fault-item.is is w.if-is_owned.true
           (ap (λ v. v.items) w.owned-is ∙ w.in_ok-push.ensures.items ∙ ap (λ f. c.loop-fault.owned.items ++ f ∷ []) w.in_ok-clone.ensures.cases)
           c.loop-fault.invariant
       | else-is_owned w ↦
-          one_left_out P c.args.faults.now c.loop-fault.fault-index c.fault-item.result c.is_owned.result c.loop-fault.owned.items c.if-is_owned.owned.items
+          one_left_out P c.args.faults.now c.loop-fault.fault-index c.fault-item.result c.in_ok-is_owned.is_owned c.loop-fault.owned.items c.if-is_owned.owned.items
           c.loop-fault-test.true c.fault-item.is is w.if-is_owned.false
           (ap (λ v. v.items) w.owned-is) c.loop-fault.invariant
     ]

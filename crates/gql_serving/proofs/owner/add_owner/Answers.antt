@@ -10,4 +10,4 @@ returns-in_ok-insert c = λ p.
     let old = contains same_place c.args.places.now p in
     let new = contains same_place c.insert.new.self p in
     put_owner c.args.fault.now c.in-Some.owner p old new c.in-Some.is
-    (subst (λ (q : FilePlace). new ≡ cond (same_place q p) true old) c.copy.ensures (c.in_ok-insert.ensures.updates.0 p))
+    (subst (λ (q : FilePlace). new ≡ cond (same_place q p) true old) c.in_ok-copy.ensures (c.in_ok-insert.ensures.updates.0 p))

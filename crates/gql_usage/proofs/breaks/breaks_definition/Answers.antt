@@ -9,17 +9,17 @@ pub breaks-requires-clause-hold : goal.breaks-requires-clause-hold
 breaks-requires-clause-hold c =
     let facts = facts_of_present c.args.question.now.present in
     (serves facts c.args.definition.now c.in-Some.verdict.now
-    (served facts c.args.question.now.shelf.now.verdicts c.args.definition.now c.id.result (Some c.in-Some.verdict.now) c.requires.stored c.id.ensures (c.in-Some.ensures.current facts))).holds
+    (served facts c.args.question.now.shelf.now.verdicts c.args.definition.now c.in_ok-id.id (Some c.in-Some.verdict.now) c.requires.stored c.in_ok-id.ensures (c.in-Some.ensures.current facts))).holds
 
 pub returns-in-Some-clause-breaks : goal.returns-in-Some-clause-breaks
 returns-in-Some-clause-breaks c =
     let facts = facts_of_present c.args.question.now.present in
     let s = serves facts c.args.definition.now c.in-Some.verdict.now
-    (served facts c.args.question.now.shelf.now.verdicts c.args.definition.now c.id.result (Some c.in-Some.verdict.now) c.requires.stored c.id.ensures (c.in-Some.ensures.current facts)) in
+    (served facts c.args.question.now.shelf.now.verdicts c.args.definition.now c.in_ok-id.id (Some c.in-Some.verdict.now) c.requires.stored c.in_ok-id.ensures (c.in-Some.ensures.current facts)) in
     subst (λ (d : Definition). IfOk c.breaks.result (λ b. IsTrue b ↔ Breaks facts c.args.question.now.removal.now d)) s.def c.breaks.ensures.breaks
 
-pub returns-in-None-clause-breaks : goal.returns-in-None-clause-breaks
-returns-in-None-clause-breaks c =
+pub returns-clause-breaks : goal.returns-clause-breaks
+returns-clause-breaks c =
     let facts = facts_of_present c.args.question.now.present in
-    let s = served facts c.args.question.now.shelf.now.verdicts c.args.definition.now c.id.result None c.requires.stored c.id.ensures (c.in-None.ensures.current facts) in
+    let s = served facts c.args.question.now.shelf.now.verdicts c.args.definition.now c.in_ok-id.id None c.requires.stored c.in_ok-id.ensures (c.in-None.ensures.current facts) in
     absurd (cc s.1)

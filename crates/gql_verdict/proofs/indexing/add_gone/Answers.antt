@@ -13,7 +13,7 @@ returns-in_ok-go c = λ olds news b.
     let v = c.in-Here.verdict in
     let before = c.args.changes.now in
     let after = c.go.new.self in
-    let named : c.in_ok-id.id ≡ id_of v.def = c.in_ok-id.ensures ∙ c.id.ensures ∙ ap id_of c.def.ensures in
+    let named : c.in_ok-id.id ≡ id_of v.def = c.in_ok-id.ensures ∙ c.in_ok-own.ensures ∙ ap id_of c.def.ensures in
     let goes : (coming going : List Reader) → AreNotes before coming going → IsNew (id_of v.def) going → AreNotes after coming (going ++ record { id = id_of v.def; answers = v.answers } ∷ []) = λ coming going are new.
     subst (λ (i : DefinitionId). AreNotes after coming (going ++ record { id = i; answers = v.answers } ∷ [])) named
     (subst (λ (xs : List Answer). AreNotes after coming (going ++ record { id = c.in_ok-id.id; answers = xs } ∷ [])) c.reading.ensures.answers

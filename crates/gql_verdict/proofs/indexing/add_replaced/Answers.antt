@@ -14,7 +14,7 @@ returns c = λ olds news b fresh_old fresh_new.
     let w = c.args.after.now in
     let notes = c.replace.new.self in
     let id = c.in_ok-id.id in
-    let named : id ≡ id_of w.def = c.in_ok-id.ensures ∙ c.id.ensures ∙ ap id_of c.def.ensures in
+    let named : id ≡ id_of w.def = c.in_ok-id.ensures ∙ c.in_ok-own.ensures ∙ ap id_of c.def.ensures in
     let noted = c.in_ok-replace.ensures olds news b (subst (λ (i : DefinitionId). IsNew i olds) (sym named) fresh_old) (subst (λ (i : DefinitionId). IsNew i news) (sym named) fresh_new) in
     subst (λ (i : DefinitionId). AreNotesBetween notes (with_reader olds i v.answers) (news ++ reader_of w ∷ [])) (named ∙ sym c.requires)
     (subst (λ (i : DefinitionId). AreNotesBetween notes (with_reader olds id v.answers) (with_reader news i w.answers)) named

@@ -14,7 +14,7 @@ returns-clause-notes c = λ new up fresh b.
     let v = c.args.verdict.now in
     let before = c.args.changes.now in
     let after = c.come.new.self in
-    let named : c.in_ok-id.id ≡ id_of v.def = c.in_ok-id.ensures ∙ c.id.ensures ∙ ap id_of c.def-2.ensures in
+    let named : c.in_ok-id.id ≡ id_of v.def = c.in_ok-id.ensures ∙ c.in_ok-own.ensures ∙ ap id_of c.def-2.ensures in
     let comes : (coming going : List Reader) → AreNotes before coming going → IsNew (id_of v.def) coming → AreNotes after (coming ++ record { id = id_of v.def; answers = v.answers } ∷ []) going = λ coming going are first.
     subst (λ (i : DefinitionId). AreNotes after (coming ++ record { id = i; answers = v.answers } ∷ []) going) named
     (subst (λ (xs : List Answer). AreNotes after (coming ++ record { id = c.in_ok-id.id; answers = xs } ∷ []) going) c.reading.ensures.answers

@@ -4,5 +4,5 @@ use Rattle.gql_verdict.specs.NewNames.{HaveNewNames}
 use Rattle.gql_verdict.proofs.new_names.have_new_names.Given as goal
 
 abbrev pub invariant-loop-definition : goal.invariant-loop-definition
-invariant-loop-definition g l = HaveNewNames (map g.O.HasName.name l.operations) (map name_of l.fragments.all)
+invariant-loop-definition g l = HaveNewNames (g.O.NameSet.names l.operations) (map name_of l.fragments.all)
     (take l.definition-index l.definitions)

@@ -61,6 +61,16 @@ returns-in_err-held-clause-holds g c = record {
 pub returns-in_err-held-clause-keeps : goal.returns-in_err-held-clause-keeps
 returns-in_err-held-clause-keeps g c = λ n k e. c.cover_definition.ensures.reads_keep n k (c.reads_of.ensures.keeps n k e)
 
+pub returns-in_err-id-clause-holds : goal.returns-in_err-id-clause-holds
+returns-in_err-id-clause-holds g c = record {
+  reads = subst (λ (G : Facts). AllHold G c.cover_definition.new.reads) (c.faults_in.ensures.facts ∙ c.reads_of.ensures.facts) c.cover_definition.ensures.reads;
+  clean = subst (λ (G : Facts). AreClean G c.faults_in.new.clean) c.reads_of.ensures.facts c.faults_in.ensures.clean;
+  pairs = subst (λ (G : Facts). of_pairs.AllHold G c.cover_definition.new.self) (c.faults_in.ensures.facts ∙ c.reads_of.ensures.facts) c.cover_definition.ensures.holds;
+}
+
+pub returns-in_err-id-clause-keeps : goal.returns-in_err-id-clause-keeps
+returns-in_err-id-clause-keeps g c = λ n k e. c.cover_definition.ensures.reads_keep n k (c.reads_of.ensures.keeps n k e)
+
 pub returns-in_err-add-clause-holds : goal.returns-in_err-add-clause-holds
 returns-in_err-add-clause-holds g c = record {
   reads = subst (λ (G : Facts). AllHold G c.cover_definition.new.reads) (c.faults_in.ensures.facts ∙ c.reads_of.ensures.facts) c.cover_definition.ensures.reads;

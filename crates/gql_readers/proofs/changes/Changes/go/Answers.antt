@@ -1,10 +1,9 @@
 use Rattle.std.proofs.Common.{◌≡◌, ◌∙◌, ◌<◌, ◌++◌, [], List, append-nil, get_or, length, rules, subst, sym, take}
 use Rattle.std.proofs.lemmas.List.{take_all}
-use Rattle.gql_facts.specs.declared.key.Key.{Key}
 use Rattle.gql_reads.specs.Records.{Kept}
 use Rattle.gql_reads.specs.declared.observation.Answer.{Answer}
-use Rattle.gql_readers.specs.Merged.{AreGoing, AreSeen}
-use Rattle.gql_readers.proofs.Coming.{answers_of, go_none, more_parts, seen_none}
+use Rattle.gql_readers.specs.Merged.{AreGoing}
+use Rattle.gql_readers.proofs.Coming.{answers_of, go_none, more_parts}
 use Rattle.gql_readers.proofs.changes.Changes.go.Goals as goal
 
 pub loop-part-init : goal.loop-part-init
@@ -12,11 +11,8 @@ loop-part-init c = λ coming going are new.
     let own = c.args.reading.now.own.record in
     let id = c.args.id.now in
     let seen : c.answers.result.now ≡ own = search rules in
-    let none : c.new-seen.result.keys ≡ [] = search rules in
-    let begun : AreGoing c.args.self.now c.new-seen.result.keys coming going id [] =
-    (go_none id going c.args.self.now coming are, subst (λ (ks : List Key). AreSeen ks []) (sym none) (seen_none [])) in
-    subst (λ (zs : List Answer). AreGoing c.go_with.new.self c.go_with.new.seen.keys coming going id zs) (seen ∙ sym (append-nil own))
-    (c.in_ok-go_with.ensures coming going [] new begun)
+    subst (λ (zs : List Answer). AreGoing c.go_with.new.self coming going id zs) (seen ∙ sym (append-nil own))
+    (c.in_ok-go_with.ensures coming going [] new (go_none id going c.args.self.now coming are))
 
 pub loop-part-preserved : goal.loop-part-preserved
 loop-part-preserved c = λ coming going are new.
@@ -28,14 +24,14 @@ loop-part-preserved c = λ coming going are new.
     let same : c.as_slice-part-items.result.now ≡ ps = c.as_slice-part-items.ensures.value in
     let seen : c.answers-in-loop-part.result.now ≡ p.seen = search rules in
     let after = c.go_with-in-loop-part.new in
-    subst (λ (zs : List Answer). AreGoing after.self after.seen.keys coming going id zs) (more_parts own ps i p
+    subst (λ (zs : List Answer). AreGoing after.self coming going id zs) (more_parts own ps i p
     (subst (λ (zs : List Kept). i < length zs) same c.loop-part-test.true) (subst (λ (zs : List Kept). p ≡ get_or zs i p) same c.part-item.is))
-    (subst (λ (zs : List Answer). AreGoing after.self after.seen.keys coming going id ((own ++ answers_of (take i ps)) ++ zs)) seen
+    (subst (λ (zs : List Answer). AreGoing after.self coming going id ((own ++ answers_of (take i ps)) ++ zs)) seen
     (c.in_ok-go_with-2.ensures coming going (own ++ answers_of (take i ps)) new (c.loop-part.invariant coming going are new)))
 
 pub returns : goal.returns
 returns c = λ coming going are new.
     let own = c.args.reading.now.own.record in
     let same : c.as_slice-part-items.result.now ≡ c.args.reading.now.parts.items = c.as_slice-part-items.ensures.value in
-    (subst (λ (zs : List Kept). AreGoing c.loop-part.self c.loop-part.seen.keys coming going c.args.id.now (own ++ answers_of zs)) (subst (λ (zs : List Kept). take c.loop-part.part-index zs ≡ zs) same (take_all _ _ c.loop-part-test.false))
-    (c.loop-part.invariant coming going are new)).0
+    subst (λ (zs : List Kept). AreGoing c.loop-part.self coming going c.args.id.now (own ++ answers_of zs)) (subst (λ (zs : List Kept). take c.loop-part.part-index zs ≡ zs) same (take_all _ _ c.loop-part-test.false))
+    (c.loop-part.invariant coming going are new)

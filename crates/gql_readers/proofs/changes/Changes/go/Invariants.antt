@@ -7,4 +7,4 @@ use Rattle.gql_readers.proofs.changes.Changes.go.Given as goal
 
 abbrev pub invariant-loop-part : goal.invariant-loop-part
 invariant-loop-part l = (coming going : List Reader) → AreNotes l.fn.self coming going → IsNew l.id going
-    → AreGoing l.self l.seen.keys coming going l.id (l.reading.own.record ++ answers_of (take l.part-index l.reading.parts.items))
+    → AreGoing l.self coming going l.id (l.reading.own.record ++ answers_of (take l.part-index l.reading.parts.items))

@@ -7,5 +7,5 @@ use Rattle.gql_readers.proofs.changes.Changes.go_with.Given as goal
 
 abbrev pub invariant-loop-answer : goal.invariant-loop-answer
 invariant-loop-answer l = (coming going : List Reader) (before : List Answer) → IsNew l.id going
-    → AreGoing l.fn.self l.fn.seen.keys coming going l.id before
-    → AreGoing l.self l.seen.keys coming going l.id (before ++ take l.answer-index l.answers)
+    → AreGoing l.fn.self coming going l.id before
+    → AreGoing l.self coming going l.id (before ++ take l.answer-index l.answers)

@@ -1,4 +1,4 @@
-use Rattle.std.proofs.Common.{◌≡◌, ◌++◌, ◌∷◌, [], ◌∙◌, List, ap, sym, subst, Contains}
+use Rattle.std.proofs.Common.{◌≡◌, ◌++◌, ◌∷◌, [], ◌∙◌, List, ap, sym, rules, subst, Contains}
 use Rattle.std.specs.Ordering.{is_gt}
 use Rattle.std.specs.declared.cmp.Ordering.TheVariants.{Less}
 use Rattle.std.proofs.lemmas.List.Kept.{AllPairs-filter}
@@ -20,6 +20,7 @@ loop-key-init c =
     let x = c.into_iter-key-iterator.ensures.into_iter_gives in
     let es : c.as_slice-rest.result.now ≡ c.args.self.now = c.as_slice-rest.ensures.value ∙ c.self.view_is in
     let ns : c.into_iter-key-iterator.result ≡ c.args.changes = x.0 ∙ c.changes.view_is in
+    let none : c.in_ok-all.all.items ≡ [] = search rules in
     record {
       next = tt;
       finite = tt;
@@ -28,7 +29,7 @@ loop-key-init c =
       noted = λ n m. subst (λ (zs : Notes). Contains zs n) ns m;
       sorted = subst (λ (zs : Notes). AreSorted zs) (sym x.0) (sorted_notes c.changes.inside.notes.entries x.5);
       same = λ n m. ap (here key_order key_of n.0) es;
-      so_far = ap (λ (zs : List Reading). zs ++ index_after c.as_slice-rest.result.now c.into_iter-key-iterator.result) c.new-all.ensures.items ∙ ap (λ (zs : List Reading). index_after zs c.into_iter-key-iterator.result) es ∙ ap (λ (zs : Notes). index_after c.args.self.now zs) ns;
+      so_far = ap (λ (zs : List Reading). zs ++ index_after c.as_slice-rest.result.now c.into_iter-key-iterator.result) none ∙ ap (λ (zs : List Reading). index_after zs c.into_iter-key-iterator.result) es ∙ ap (λ (zs : Notes). index_after c.args.self.now zs) ns;
     }
 
 pub add_made-requires-clause-readers : goal.add_made-requires-clause-readers
@@ -36,7 +37,7 @@ add_made-requires-clause-readers c =
     let r = c.requires in
     let sorted : AreSorted c.args.changes = subst (λ (zs : Notes). AreSorted zs) c.changes.view_is (sorted_notes c.changes.inside.notes.entries c.into_iter-key-iterator.ensures.into_iter_gives.5) in
     found_in_order r.0 c.args.self.now c.args.changes r.1 r.2 r.3 r.4 r.5.index_of sorted r.5.notes_of r.5.edit c.split-parts.result.here.now
-    (λ e m. c.loop-key.invariant.kept e (here_from key_order key_total key_exact key_of c.key.inside.key c.loop-key.rest.now e (subst (λ (zs : List Reading). Contains zs e) c.split-parts.ensures.here m)).0)
+    (λ e m. c.loop-key.invariant.kept e (here_from key_order key_total key_exact key_of c.sought.result c.loop-key.rest.now e (subst (λ (zs : List Reading). Contains zs e) c.split-parts.ensures.here m)).0)
 
 pub add_made-requires-clause-goes : goal.add_made-requires-clause-goes
 add_made-requires-clause-goes c =
@@ -54,20 +55,20 @@ add_made-requires-clause-among c =
     let steps : c.loop-key.key-iterator ≡ n ∷ c.next.new.self = c.in-Some.ensures.steps in
     let m : Contains c.loop-key.key-iterator n = subst (λ (zs : Notes). Contains zs n) (sym steps) (Contains-here n c.next.new.self) in
     let sorted : AreSorted c.args.changes = subst (λ (zs : Notes). AreSorted zs) c.changes.view_is (sorted_notes c.changes.inside.notes.entries c.into_iter-key-iterator.ensures.into_iter_gives.5) in
-    let same : c.split-parts.result.here.now ≡ here key_order key_of c.in-Some.key c.args.self.now = c.split-parts.ensures.here ∙ ap (λ j. here key_order key_of j c.loop-key.rest.now) c.key.view_is ∙ c.loop-key.invariant.same n m in
+    let same : c.split-parts.result.here.now ≡ here key_order key_of c.in-Some.key c.args.self.now = c.split-parts.ensures.here ∙ ap (λ j. here key_order key_of j c.loop-key.rest.now) c.sought.ensures ∙ c.loop-key.invariant.same n m in
     subst (λ (zs : List Reading). (id : DefinitionId) → Contains c.in-Some.noted.goes id → Contains (readers_found zs) id) (sym same)
     (goes_among r.0 c.args.self.now c.args.changes r.1 r.2 r.3 r.4 r.5.index_of sorted r.5.notes_of r.5.edit n (c.loop-key.invariant.noted n m))
 
 pub add_made-requires-clause-named : goal.add_made-requires-clause-named
-add_made-requires-clause-named c = λ e m. (here_from key_order key_total key_exact key_of c.key.inside.key c.loop-key.rest.now e (subst (λ (zs : List Reading). Contains zs e) c.split-parts.ensures.here m)).1
+add_made-requires-clause-named c = λ e m. (here_from key_order key_total key_exact key_of c.sought.result c.loop-key.rest.now e (subst (λ (zs : List Reading). Contains zs e) c.split-parts.ensures.here m)).1 ∙ c.sought.ensures
 
 pub loop-key-preserved : goal.loop-key-preserved
 loop-key-preserved c =
-    let k = c.key.inside.key in
+    let k = c.sought.result in
     let n : Key × Noted = (c.in-Some.key, c.in-Some.noted) in
     let rest = c.loop-key.rest.now in
     let steps : c.loop-key.key-iterator ≡ n ∷ c.next.new.self = c.in-Some.ensures.steps in
-    let same : here key_order key_of k rest ≡ here key_order key_of c.in-Some.key rest = ap (λ j. here key_order key_of j rest) c.key.view_is in
+    let same : here key_order key_of k rest ≡ here key_order key_of c.in-Some.key rest = ap (λ j. here key_order key_of j rest) c.sought.ensures in
     record {
       next = tt;
       finite = tt;
@@ -77,14 +78,14 @@ loop-key-preserved c =
       sorted = pairs_tail (λ (a b : Key × Noted). key_order a.0 b.0 ≡ Less) n c.next.new.self (subst (λ (zs : Notes). AreSorted zs) steps c.loop-key.invariant.sorted);
       same = λ m h.
           let up : key_order c.in-Some.key m.0 ≡ Less = pairs_head (λ (a b : Key × Noted). key_order a.0 b.0 ≡ Less) n c.next.new.self (subst (λ (zs : Notes). AreSorted zs) steps c.loop-key.invariant.sorted) m h in
-          ap (here key_order key_of m.0) (c.split-parts.ensures.after ∙ ap (λ j. above key_order key_of j rest) c.key.view_is)
+          ap (here key_order key_of m.0) (c.split-parts.ensures.after ∙ ap (λ j. above key_order key_of j rest) c.sought.ensures)
           ∙ here_above key_order key_total key_exact key_of c.in-Some.key m.0 rest up
           ∙ c.loop-key.invariant.same m (subst (λ (zs : Notes). Contains zs m) (sym steps) (Contains-there m n c.next.new.self h));
       so_far = ap (λ (zs : List Reading). zs ++ index_after c.split-parts.result.after.now c.next.new.self)
-          (c.in_ok-add_made.ensures ∙ ap (λ (zs : List Reading). zs ++ made c.split-parts.result.here.now (k, c.in-Some.noted)) c.in_ok-add_handles.ensures)
-          ∙ merged_more key_order key_of changed_key made c.loop-key.all.items rest c.split-parts.result.before.now c.split-parts.result.after.now (made c.split-parts.result.here.now (k, c.in-Some.noted)) n c.next.new.self c.loop-key.key-iterator
-          steps (c.split-parts.ensures.before ∙ ap (λ j. below key_order key_of j rest) c.key.view_is) (c.split-parts.ensures.after ∙ ap (λ j. above key_order key_of j rest) c.key.view_is)
-          (ap (λ (zs : List Reading). made zs (k, c.in-Some.noted)) (c.split-parts.ensures.here ∙ same) ∙ ap (λ j. made (here key_order key_of c.in-Some.key rest) (j, c.in-Some.noted)) c.key.view_is)
+          (c.in_ok-add_made.ensures ∙ ap (λ (zs : List Reading). zs ++ made c.split-parts.result.here.now n) c.in_ok-add_handles.ensures)
+          ∙ merged_more key_order key_of changed_key made c.loop-key.all.items rest c.split-parts.result.before.now c.split-parts.result.after.now (made c.split-parts.result.here.now n) n c.next.new.self c.loop-key.key-iterator
+          steps (c.split-parts.ensures.before ∙ ap (λ j. below key_order key_of j rest) c.sought.ensures) (c.split-parts.ensures.after ∙ ap (λ j. above key_order key_of j rest) c.sought.ensures)
+          (ap (λ (zs : List Reading). made zs n) (c.split-parts.ensures.here ∙ same))
           ∙ c.loop-key.invariant.so_far;
     }
 
