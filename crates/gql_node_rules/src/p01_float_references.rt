@@ -1,4 +1,4 @@
-//! P01, Float References: a schema file refers to Float, where it is not served.
+//! P01, Float References: a schema file refers to Float, which only --profile october-2021 serves.
 //! It is this registry's own rule.
 //!
 //! At fault: `type Query { a: Float }`

@@ -1,4 +1,5 @@
-//! P02, Subscription Roots: the schema has a subscription root, where subscriptions are not served.
+//! P02, Subscription Roots: the schema has a subscription root, which only --profile october-2021
+//! serves.
 //! It is this registry's own rule.
 //!
 //! At fault: `type Query { a: Int } type Subscription { b: Int }`

@@ -110,8 +110,8 @@ abbrev of_f : Place → Spread
 of_f p = record { place = p; name = name p (codes "F"); directives = [] }
 
 -- `fragment F on Subscription { a ...F }`, which spreads itself
-abbrev circle : Place → FragmentFact
-circle p = record {
+abbrev cycle : Place → FragmentFact
+cycle p = record {
   file = codes "f";
   fragment = record {
     place = p;
@@ -126,7 +126,7 @@ circle p = record {
 abbrev answers : Place → Facts
 answers p (key.RootOf operation.Subscription) = fact.Root root
 answers p (key.PossibleOf t) = fact.Possible (t ∷ [])
-answers p (key.FragmentOf n) = fact.Fragment (circle p)
+answers p (key.FragmentOf n) = fact.Fragment (cycle p)
 answers p _ = fact.Absent
 
 -- `subscription S` with these selections
@@ -178,7 +178,7 @@ abbrev with_f : Place → List Selection
 with_f p = s.Spread (of_f p) ∷ s.Field (b p) ∷ []
 
 a_of_f : (p : Place) → AtRoot (answers p) root (codes "d") (with_f p) (codes "f") (a p)
-a_of_f p = spread {x = of_f p} {g = circle p}
+a_of_f p = spread {x = of_f p} {g = cycle p}
     (Contains-here (s.Spread (of_f p)) (s.Field (b p) ∷ []))
     refl refl refl (here (Contains-here (s.Field (a p)) (s.Spread (of_f p) ∷ [])) refl)
 
@@ -252,43 +252,43 @@ no_inline_spread x i e =
 abbrev IsOfCircle : Place → Selection → Type 0
 IsOfCircle p y = (y ≡ s.Field (a p)) ⊎ (y ≡ s.Spread (of_f p))
 
-of_circle : (p : Place) (y : Selection)
+of_cycle : (p : Place) (y : Selection)
     → Contains (s.Field (a p) ∷ s.Spread (of_f p) ∷ []) y → IsOfCircle p y
-of_circle p y c = elim (Contains-cases y (s.Field (a p)) (s.Spread (of_f p) ∷ []) c) [
+of_cycle p y c = elim (Contains-cases y (s.Field (a p)) (s.Spread (of_f p) ∷ []) c) [
   | inl e ↦ inl e
   | inr t ↦ inr (one (s.Spread (of_f p)) y t)
 ]
 
 -- however often F spreads itself, `a` is the only root field
-in_circle : (p : Place) (file at : List ℕ) (set : List Selection) (f : Field)
+in_cycle : (p : Place) (file at : List ℕ) (set : List Selection) (f : Field)
     → ((y : Selection) → Contains set y → IsOfCircle p y)
     → AtRoot (answers p) root file set at f → f ≡ a p
-in_circle p file at set f only (here c k) = elim (only (s.Field f) c) [
+in_cycle p file at set f only (here c k) = elim (only (s.Field f) c) [
   | inl e ↦ field_is f (a p) e
   | inr e ↦ absurd (no_spread f (of_f p) e)
 ]
-in_circle p file at set f only (inside {i = i} c k q r) =
+in_cycle p file at set f only (inside {i = i} c k q r) =
     absurd (elim (only (s.InlineFragment i) c) [
       | inl e ↦ no_inline (a p) i (sym e)
       | inr e ↦ no_inline_spread (of_f p) i (sym e)
     ])
-in_circle p file at set f only (spread {x = y} {g = g} c k e q r) =
-    let same : circle p ≡ g = cc e in
-    in_circle p g.file at g.fragment.selections f
+in_cycle p file at set f only (spread {x = y} {g = g} c k e q r) =
+    let same : cycle p ≡ g = cc e in
+    in_cycle p g.file at g.fragment.selections f
     (subst (λ (h : FragmentFact). (z : Selection) → Contains h.fragment.selections z → IsOfCircle p z)
-    same (of_circle p)) r
+    same (of_cycle p)) r
 
 -- `{ ...F }`
 abbrev only_f : Place → List Selection
 only_f p = s.Spread (of_f p) ∷ []
 
 a_of_only_f : (p : Place) → AtRoot (answers p) root (codes "d") (only_f p) (codes "f") (a p)
-a_of_only_f p = spread {x = of_f p} {g = circle p} (Contains-here (s.Spread (of_f p)) [])
+a_of_only_f p = spread {x = of_f p} {g = cycle p} (Contains-here (s.Spread (of_f p)) [])
     refl refl refl (here (Contains-here (s.Field (a p)) (s.Spread (of_f p) ∷ [])) refl)
 
 only_a : (p : Place) (at : List ℕ) (f : Field)
     → AtRoot (answers p) root (codes "d") (only_f p) at f → f ≡ a p
-only_a p at f r = in_circle p (codes "d") at (only_f p) f
+only_a p at f r = in_cycle p (codes "d") at (only_f p) f
     (λ y c. inr (one (s.Spread (of_f p)) y c)) r
 
 -- so `{ ...F }` has no fault

@@ -1,4 +1,4 @@
-//! P04, Float Variables: a variable is of type Float, and no type of the schema has that name.
+//! P04, Float Variables: a variable is of type Float, which only --profile october-2021 serves.
 //! It is this registry's own rule.
 //!
 //! At fault: `query A($n: Float) { dog { barks(times: $n) } }`
