@@ -2,9 +2,10 @@
 seeds of the sequences are FIRST, by default 0, and those after it.
 
 Each user has a folder. Between the pushes files change, come, go and are renamed, and a colleague edits
-the registry by himself. The pushes go through a proxy, which notes each request that the registry
-accepts. It may cut the connection after some bytes, or let the colleague edit the registry in the
-middle of a push.
+the registry by himself. Half of the registries serve many changes in one edit, so that a push sends all
+of its edits in one request, and half of them do not, so that it sends them one at a time. The pushes go
+through a proxy, which notes each request that the registry accepts. It may cut the connection after some
+bytes, or let the colleague edit the registry in the middle of a push.
 
 What is looked at: the registry ends as a fresh one does into which the files are put that the accepted
 edits left; no accepted edit of a push follows on an edit of somebody else, unless the push has --force,
@@ -28,13 +29,13 @@ def expect(holds, text):
 
 
 class Server:
-    """A registry that listens to a port."""
+    """A registry of a profile that listens to a port."""
 
-    def __init__(self):
+    def __init__(self, profile):
         for port in random.Random().sample(range(20000, 60000), 50):
             self.port = port
             self.process = subprocess.Popen(
-                [PROGRAM, "serve", "--port", str(port), "--connections", "1000000"],
+                [PROGRAM, "serve", "--profile", profile, "--port", str(port), "--connections", "1000000"],
                 stdout=subprocess.PIPE, stderr=subprocess.DEVNULL)
             if self.process.stdout.readline() == b"listening\n":
                 return
@@ -55,18 +56,32 @@ class Server:
 
 
 class Model:
-    """The files that accepted edits left, and who made each edit."""
+    """The files that accepted edits left, and who made each edit. An edit is a list of changes: a target
+    with the file that is put, or with None where it is removed."""
 
     def __init__(self):
         self.files, self.writers, self.history = {}, {}, []
 
-    def accept(self, who, method, target, body):
-        if method == "DELETE":
-            self.files.pop(target, None)
-        else:
-            self.files[target] = body
-        self.writers[target] = who
+    def accept(self, who, changes):
+        for target, body in changes:
+            if body is None:
+                self.files.pop(target, None)
+            else:
+                self.files[target] = body
+            self.writers[target] = who
         self.history.append(who)
+
+
+def changes_in(method, target, body):
+    """The changes that a request makes, if it is accepted."""
+    if method == "DELETE":
+        return [(target, None)]
+    if method == "PUT":
+        return [(target, body)]
+    batch = json.loads(body)
+    files = [(f"{side}/{name}", None if text is None else text.encode())
+             for side in ("schema", "documents") for name, text in batch.get(side, {}).items()]
+    return files + ([("data", json.dumps(batch["data"]).encode())] if "data" in batch else [])
 
 
 def head_end(data):
@@ -218,13 +233,21 @@ class User:
         return found
 
 
+def is_same(target, held, text):
+    """Whether a registry has a file. Data are the same if their values are."""
+    if target == "data" and held is not None:
+        return json.loads(held) == json.loads(text)
+    return held == text
+
+
 SUMMARY = re.compile(r"^\d+ files? put or removed: revision (\d+)(.*)$", re.M)
 
 
 class Sequence:
     def __init__(self, seed, place):
         self.rand = random.Random(seed)
-        self.server, self.model = Server(), Model()
+        self.profile = self.rand.choice(["whole-numbers", "october-2021"])
+        self.server, self.model = Server(self.profile), Model()
         self.users = [User(self.rand, name, os.path.join(place, name)) for name in ("ann", "bob")]
         for user in self.users:
             user.write("schema/root", schema_text(self.rand))
@@ -242,9 +265,10 @@ class Sequence:
         target = path[1:].split("?")[0]
         user = self.pushing
         self.made.append((len(self.model.history), target))
-        self.model.accept(user.name, method, target, request[head_end(request):])
-        if method == "PUT":
-            (user.known if is_passed else user.lost).add(target)
+        changes = changes_in(method, target, request[head_end(request):])
+        self.model.accept(user.name, changes)
+        puts = {target for target, text in changes if text is not None}
+        (user.known if is_passed else user.lost).update(puts)
 
     def colleague(self):
         """An edit of the colleague, without a folder."""
@@ -260,7 +284,7 @@ class Sequence:
             body = document_text(self.rand, number).encode()
         status, _ = self.server.call(method, "/" + target, body)
         if status == 200:
-            self.model.accept("carl", method, target, body)
+            self.model.accept("carl", changes_in(method, target, body))
 
     def push(self, user, flags, cut=False, disturb=False):
         proxy = self.proxy
@@ -300,7 +324,7 @@ class Sequence:
             expect(status in wanted, said)
         if status == 0:
             for target, text in user.files.items():
-                expect(model.files.get(target) == text or is_disturbed,
+                expect(is_same(target, model.files.get(target), text) or is_disturbed,
                        f"{target} is not in the registry\n{said}")
             for target in user.known - user.lost - set(user.files):
                 expect(target == "data" or target not in model.files or model.writers[target] != user.name,
@@ -332,7 +356,7 @@ class Sequence:
 
     def compare(self):
         """Compares the registry with a fresh one that has the files of the model."""
-        fresh = Server()
+        fresh = Server(self.profile)
         try:
             for target, body in sorted(self.model.files.items()):
                 expect(fresh.call("PUT", "/" + target, body)[0] == 200, f"{target} is refused")

@@ -6,3 +6,5 @@ mod Bodies
 mod Undisturbed
 mod Owners
 mod SameOwners
+mod Names
+mod Depths

@@ -6,5 +6,7 @@ pub mod Reports
 pub mod Unserved
 pub mod Sending
 pub mod Requests
+pub mod Batches
+pub mod BatchValues
 pub mod Meanwhile
 pub mod Laws

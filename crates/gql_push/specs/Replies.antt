@@ -1,5 +1,5 @@
 -- What an answer to an edit says, by its status and its body (docs/API.md).
-use Rattle.std.specs.Prelude.{ℕ, ◌==◌, List, codes, string_bytes, Option, None, option_and_then, if◌then◌else◌}
+use Rattle.std.specs.Prelude.{ℕ, ◌==◌, List, codes, string_bytes, Option, None, option_and_then, option_map, if◌then◌else◌}
 use Rattle.std.specs.Option.{option_map_or}
 use Rattle.std.specs.Str.{is_utf8}
 use Rattle.serde_json.specs.Data.{Data}
@@ -9,19 +9,20 @@ use Rattle.gql_push.specs.declared.body.Reply.{Reply}
 use Rattle.gql_push.specs.declared.body.Reply.TheVariants as reply
 
 -- What an answer says: the edit is accepted, with the revision and the number of faults; it expects
--- another revision than this one; it is refused, with a number and a message; or it is not the
--- answer of a registry.
+-- another revision than this one; it is refused, with a number, a message and maybe the file that is
+-- refused; or it is not the answer of a registry.
 pub data Said : Type 0 where
   accepted : ℕ → ℕ → Said
   stale : ℕ → Said
-  refused : ℕ → List ℕ → Said
+  refused : ℕ → List ℕ → Option (List ℕ) → Said
   strange : Said
 
 -- what a reply says
 abbrev pub said_by : Reply → Said
 said_by (reply.Done revision faults) = accepted revision faults
 said_by (reply.Stale revision) = stale revision
-said_by (reply.Refused number message) = refused number (string_bytes message)
+said_by (reply.Refused number message file) =
+    refused number (string_bytes message) (option_map (λ f. string_bytes f) file)
 said_by reply.Strange = strange
 
 -- the bytes of a body as JSON, if they are JSON in UTF-8
@@ -50,16 +51,19 @@ first_error d = option_and_then (at 0) (get (codes "errors") d)
 abbrev pub stale_in : Data → Said
 stale_in extensions = option_map_or stale (number_at (codes "revision") extensions) strange
 
--- any other refusal has a message
-abbrev pub refused_in : Data → ℕ → Said
-refused_in error number = option_map_or (refused number) (text_at (codes "message") error) strange
+-- any other refusal has a message, and where it is of a file, the file in its extensions
+abbrev pub refused_in : Data → Data → ℕ → Said
+refused_in error extensions number = option_map_or
+    (λ message. refused number message (text_at (codes "file") extensions))
+    (text_at (codes "message") error) strange
 
 -- what an error of this number says: 206 is that of an edit that expects another revision
 abbrev pub said_by_number : Data → Data → ℕ → Said
 said_by_number error extensions number =
-    if number == 206 then stale_in extensions else refused_in error number
+    if number == 206 then stale_in extensions else refused_in error extensions number
 
--- what an error says: `{"message":M,"extensions":{"code":N}}`
+-- what an error says: `{"message":M,"extensions":{"code":N}}`, with `"file":F` in the extensions
+-- where a file is refused
 abbrev pub said_in_error : Data → Said
 said_in_error error = option_map_or
     (λ extensions. option_map_or (said_by_number error extensions)

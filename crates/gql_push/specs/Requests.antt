@@ -47,3 +47,8 @@ edit_request host resources files s =
     line_text (method_of s.change) (target_of resources s.change) s.revision
     ++ (fields_text host (length (body_of resources files s.change))
     ++ body_of resources files s.change)
+
+-- the request for a batch of this body, which expects a revision
+abbrev pub batch_request : List ℕ → ℕ → List ℕ → List ℕ
+batch_request host revision body = line_text (codes "POST") (codes "edits") revision
+    ++ (fields_text host (length body) ++ body)

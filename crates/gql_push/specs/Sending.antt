@@ -1,6 +1,6 @@
--- What a push sends (this registry's own rule): one edit at a time, and the next one only once that
--- is made.
-use Rattle.std.specs.Prelude.{ℕ, ◌+◌, ◌&&◌, ◌==◌, List, Bool, true, false, Option, Some, None, is_some, option_map, slice_get, if◌then◌else◌}
+-- What a push sends (this registry's own rule): one request for all edits; or else one edit at a time,
+-- and the next one only once that is made.
+use Rattle.std.specs.Prelude.{ℕ, ◌+◌, ◌&&◌, ◌||◌, ◌==◌, List, Bool, true, false, not, Option, Some, None, is_some, length, nat_lt, option_map, slice_get, if◌then◌else◌}
 use Rattle.std.specs.Option.{option_map_or}
 use Rattle.gql_push.specs.Plans.{Change, put, remove, empty_data, change_of}
 use Rattle.gql_push.specs.declared.body.Reply.{Reply}
@@ -43,7 +43,7 @@ is_gone_already c number = is_removal c && (number == 204)
 abbrev pub is_made : Change → Reply → Bool
 is_made c (reply.Done revision faults) = true
 is_made c (reply.Stale revision) = false
-is_made c (reply.Refused number message) = is_gone_already c number
+is_made c (reply.Refused number message file) = is_gone_already c number
 is_made c reply.Strange = false
 
 -- one edit more is made, and the registry has this revision and so many faults
@@ -61,11 +61,49 @@ stopped p why = record p { stop = Some why }
 abbrev pub replied : Progress → Change → Reply → Progress
 replied p c (reply.Done revision faults) = further p revision faults
 replied p c (reply.Stale revision) = stopped p (stop.Edited revision)
-replied p c (reply.Refused number message) =
+replied p c (reply.Refused number message file) =
     if is_gone_already c number then further p p.revision p.faults
-    else stopped p (stop.Refused number message)
+    else stopped p (stop.Refused number message file)
 replied p c reply.Strange = stopped p stop.Strange
 
 -- a push after this reply to what it sent last, if it sent something
 abbrev pub noted : List Change → Progress → Reply → Progress
 noted edits p r = option_map_or (λ (s : Sending). replied p s.change r) (next edits p) p
+
+-- ---- one request for all edits
+
+-- Whether one request for all edits may be sent: none is made, there are two or more, and the push
+-- has not stopped.
+abbrev pub may_send_all : List Change → Progress → Bool
+may_send_all edits p = not (is_some p.stop) && (p.made == 0) && nat_lt 1 (length edits)
+
+-- the revision that one request for all edits expects, if it may be sent: the present one
+abbrev pub together : List Change → Progress → Option ℕ
+together edits p = if may_send_all edits p then Some p.revision else None
+
+-- whether one request for all edits is accepted, by this reply
+abbrev pub are_accepted : Reply → Bool
+are_accepted (reply.Done revision faults) = true
+are_accepted (reply.Stale revision) = false
+are_accepted (reply.Refused number message file) = false
+are_accepted reply.Strange = false
+
+-- Whether a push goes on one by one after a refusal of this number of one request for all edits: the
+-- registry has no such request (305), does not read a body of the length (303) or of the form (312),
+-- or has no file to remove (204), which is done then.
+abbrev pub goes_on : ℕ → Bool
+goes_on number = (number == 305) || (number == 303) || (number == 312) || (number == 204)
+
+-- A push after this reply to one request for all edits. An accepted one makes all of them. After a
+-- refusal none is made: the push goes on one by one, as if the request had not been sent, or stops.
+abbrev pub replied_together : List Change → Progress → Reply → Progress
+replied_together edits p (reply.Done revision faults) =
+    record p { made = length edits; revision = revision; faults = faults }
+replied_together edits p (reply.Stale revision) = stopped p (stop.Edited revision)
+replied_together edits p (reply.Refused number message file) =
+    if goes_on number then p else stopped p (stop.Refused number message file)
+replied_together edits p reply.Strange = stopped p stop.Strange
+
+-- a push after this reply to one request for all edits, if that may be sent
+abbrev pub noted_together : List Change → Progress → Reply → Progress
+noted_together edits p r = if may_send_all edits p then replied_together edits p r else p

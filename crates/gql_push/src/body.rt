@@ -1,5 +1,5 @@
 //! What the body of an answer to an edit says.
-ghost use Rattle.std.specs.Prelude.{◌≡◌, codes, IfOk, option_map};
+ghost use Rattle.std.specs.Prelude.{◌≡◌, codes, IfOk, option_map, string_bytes};
 ghost use Rattle.std.specs.Option.{option_copied};
 ghost use Rattle.serde_json.specs.View.{view};
 ghost use Rattle.gql_push.specs.Replies as spec;
@@ -18,11 +18,21 @@ const STALE: u64 = 206;
 #[derive(Drop)]
 pub enum Reply {
     /// The edit is accepted: the revision, and how many faults there are.
-    Done { revision: u64, faults: u64 },
+    Done {
+        revision: u64,
+        faults: u64,
+    },
     /// The edit expects another revision than the present one, which this is.
-    Stale { revision: u64 },
-    /// The edit is refused: the number, and the message.
-    Refused { number: u64, message: String },
+    Stale {
+        revision: u64,
+    },
+    /// The edit is refused: the number, the message, and the file that is refused, as
+    /// `schema/users`, where the answer names one.
+    Refused {
+        number: u64,
+        message: String,
+        file: Option<String>,
+    },
     /// The answer is not one of a registry.
     Strange,
 }
@@ -78,15 +88,32 @@ fn stale(extensions: &Value) -> Reply
     }
 }
 
+/// The file that is refused, if the extensions of an error name one.
+fn file_in(alloc: Global, extensions: &Value) -> Result<Option<String>, AllocError>
+    ensures { IfOk result (λ file. option_map (λ f. string_bytes f) file
+        ≡ spec.text_at (codes "file") (view extensions.now)) }
+{
+    match text_at(extensions, "file") {
+        Some(file) => Ok(Some(String::from_str(alloc, file)?)),
+        None => Ok(None),
+    }
+}
+
 /// What an edit is answered that is refused with this number.
-fn refused(alloc: Global, error: &Value, number: u64) -> Result<Reply, AllocError>
-    ensures { IfOk result (λ reply.
-        spec.said_by reply ≡ spec.refused_in (view error.now) number) }
+fn refused(
+    alloc: Global,
+    error: &Value,
+    extensions: &Value,
+    number: u64,
+) -> Result<Reply, AllocError>
+    ensures { IfOk result (λ reply. spec.said_by reply
+        ≡ spec.refused_in (view error.now) (view extensions.now) number) }
 {
     match text_at(error, "message") {
         Some(message) => Ok(Reply::Refused {
             number,
             message: String::from_str(alloc, message)?,
+            file: file_in(alloc, extensions)?,
         }),
         None => Ok(Reply::Strange),
     }
@@ -101,7 +128,7 @@ fn error_reply(alloc: Global, error: &Value) -> Result<Reply, AllocError>
     };
     match number_at(extensions, "code") {
         Some(STALE) => Ok(stale(extensions)),
-        Some(number) => refused(alloc, error, number),
+        Some(number) => refused(alloc, error, extensions, number),
         None => Ok(Reply::Strange),
     }
 }

@@ -2,7 +2,8 @@
 //!
 //! The first three say what the clauses of `plan`, `pushed_after` and `to_put_again` come to. The
 //! first two ask that no target has two sums among the resources: a folder has one file of each
-//! target. The others say what the clauses of `Progress::next` and `Progress::note` come to.
+//! target. The others say what the clauses of `Progress::next`, `Progress::note`,
+//! `Progress::together` and `Progress::note_together` come to.
 ghost use Rattle.gql_push.specs.Laws as laws;
 
 /// Once all edits of a plan are made, what is pushed is what the folder has: the same targets, each
@@ -36,4 +37,10 @@ pub fn stops_for_good()
 /// An edit that is sent and not made stops the push: nothing is sent after it.
 pub fn stops_at_refusal()
     ensures { laws.StopsAtRefusal }
+{}
+
+/// One request for all edits makes all of them, and nothing is left to send; or it makes none, and
+/// the push is as before, or has stopped.
+pub fn all_or_none()
+    ensures { laws.AllOrNone }
 {}

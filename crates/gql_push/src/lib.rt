@@ -2,7 +2,9 @@
 #![tactic(auto)]
 
 mod answer;
+mod batch;
 mod body;
+mod depth;
 mod edits;
 pub mod laws;
 mod progress;
@@ -13,6 +15,7 @@ mod sum;
 mod unserved;
 
 pub use answer::{AnswerSpan, answer_in};
+pub use batch::{batch_request, trial_request};
 pub use body::{Reply, reply_in};
 pub use edits::{Edit, Resource, plan, pushed_after, resources_of, to_put_again};
 pub use progress::{Progress, Sent, Stop};

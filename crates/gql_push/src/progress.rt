@@ -1,4 +1,5 @@
-//! How a push goes on: one edit is sent, and the next one only once that is made.
+//! How a push goes on: one request for all edits is sent; or one edit, and the next one only once that
+//! is made.
 ghost use Rattle.std.specs.Prelude.{◌≡◌, ◌&&◌, ◌==◌, None, option_map};
 ghost use Rattle.gql_push.specs.Plans.{change_of, changes_of};
 ghost use Rattle.gql_push.specs.Sending as spec;
@@ -10,9 +11,16 @@ use crate::edits::Edit;
 #[derive(Drop)]
 pub enum Stop {
     /// Somebody else has edited the registry, which is at this revision.
-    Edited { revision: u64 },
-    /// An edit is refused: the number, and the message.
-    Refused { number: u64, message: String },
+    Edited {
+        revision: u64,
+    },
+    /// An edit is refused: the number, the message, and the file that is refused, where the answer
+    /// names one.
+    Refused {
+        number: u64,
+        message: String,
+        file: Option<String>,
+    },
     /// An answer is not one of a registry.
     Strange,
 }
@@ -49,6 +57,24 @@ fn is_gone_already(edit: &Edit, number: u64) -> bool
     ensures { result ≡ spec.is_gone_already (change_of edit.now) number }
 {
     is_removal(edit) && number == NO_SUCH_FILE
+}
+
+/// The numbers of refusals of one request for all edits after which a push goes on one by one: the
+/// registry has no such request, it does not read a body of this length, or of this form.
+const NO_SUCH_REQUEST: u64 = 305;
+
+const BODY_TOO_LONG: u64 = 303;
+
+const BAD_BATCH: u64 = 312;
+
+/// Whether a push goes on one by one after a refusal of this number of one request for all edits.
+fn goes_on(number: u64) -> bool
+    ensures { result ≡ spec.goes_on number }
+{
+    number == NO_SUCH_REQUEST
+        || number == BODY_TOO_LONG
+        || number == BAD_BATCH
+        || number == NO_SUCH_FILE
 }
 
 impl Progress {
@@ -113,14 +139,22 @@ impl Progress {
         }
     }
 
+    /// Goes on to so many edits that are made: the registry has this revision and so many faults.
+    fn reach(&mut self, made: usize, revision: u64, faults: u64)
+        ensures { self.new
+            ≡ record self.old { made = made; revision = revision; faults = faults } }
+    {
+        self.made = made;
+        self.revision = revision;
+        self.faults = faults;
+    }
+
     /// Goes on after an edit that is made: the registry has this revision and so many faults.
     fn go_on(&mut self, revision: u64, faults: u64)
         requires { self.old.made < usize.MAX }
         ensures { self.new ≡ spec.further self.old revision faults }
     {
-        self.made += 1;
-        self.revision = revision;
-        self.faults = faults;
+        self.reach(self.made + 1, revision, faults);
     }
 
     /// Notes the reply to an edit that was sent.
@@ -131,11 +165,19 @@ impl Progress {
         match reply {
             Reply::Done { revision, faults } => self.go_on(revision, faults),
             Reply::Stale { revision } => self.stop = Some(Stop::Edited { revision }),
-            Reply::Refused { number, message } => {
+            Reply::Refused {
+                number,
+                message,
+                file,
+            } => {
                 if is_gone_already(edit, number) {
                     self.go_on(self.revision, self.faults);
                 } else {
-                    self.stop = Some(Stop::Refused { number, message });
+                    self.stop = Some(Stop::Refused {
+                        number,
+                        message,
+                        file,
+                    });
                 }
             }
             Reply::Strange => self.stop = Some(Stop::Strange),
@@ -148,6 +190,71 @@ impl Progress {
     {
         if let Some(sent) = self.next(edits) {
             self.note_reply(sent.edit, reply);
+        }
+    }
+
+    /// Whether one request for all edits may be sent.
+    fn may_send_all(&self, edits: &[Edit]) -> bool
+        ensures { result ≡ spec.may_send_all (changes_of edits.now) self.now }
+    {
+        self.stop.is_none() && self.made == 0 && edits.len() > 1
+    }
+
+    /// The revision that one request for all edits expects. None if there is at most one edit, some
+    /// are made, or the push has stopped.
+    pub fn together(&self, edits: &[Edit]) -> Option<u64>
+        ensures { result ≡ spec.together (changes_of edits.now) self.now }
+    {
+        if self.may_send_all(edits) {
+            Some(self.revision)
+        } else {
+            None
+        }
+    }
+
+    /// Goes on after all edits are made: the registry has this revision and so many faults.
+    fn end(&mut self, edits: &[Edit], revision: u64, faults: u64)
+        ensures { self.new ≡ record self.old {
+          made = length (changes_of edits.now);
+          revision = revision;
+          faults = faults;
+        } }
+    {
+        self.reach(edits.len(), revision, faults);
+    }
+
+    /// Notes the reply to one request for all edits.
+    fn note_reply_together(&mut self, edits: &[Edit], reply: Reply)
+        ensures { self.new ≡ spec.replied_together (changes_of edits.now) self.old reply }
+    {
+        match reply {
+            Reply::Done { revision, faults } => self.end(edits, revision, faults),
+            Reply::Stale { revision } => self.stop = Some(Stop::Edited { revision }),
+            Reply::Refused {
+                number,
+                message,
+                file,
+            } => {
+                if !goes_on(number) {
+                    self.stop = Some(Stop::Refused {
+                        number,
+                        message,
+                        file,
+                    });
+                }
+            }
+            Reply::Strange => self.stop = Some(Stop::Strange),
+        }
+    }
+
+    /// Notes the reply to one request for all edits: an accepted one makes all of them. After some
+    /// refusals the push goes on one by one, and any other one stops it. Nothing is noted if no such
+    /// request may be sent.
+    pub fn note_together(&mut self, edits: &[Edit], reply: Reply)
+        ensures { self.new ≡ spec.noted_together (changes_of edits.now) self.old reply }
+    {
+        if self.may_send_all(edits) {
+            self.note_reply_together(edits, reply);
         }
     }
 }

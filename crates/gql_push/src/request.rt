@@ -21,7 +21,11 @@ pub fn write_report(alloc: Global, out: &mut Vec<u8>, host: &str) -> Result<(), 
 }
 
 /// The bytes of the file that an edit puts; none where it puts none.
-fn file_bytes<'f>(edit: &Edit, resources: &[Resource], files: &'f [GivenFile]) -> &'f [u8]
+pub(crate) fn file_bytes<'f>(
+    edit: &Edit,
+    resources: &[Resource],
+    files: &'f [GivenFile],
+) -> &'f [u8]
     ensures { result.now
         ≡ spec.bytes_put (entries_of resources.now) files.now (change_of edit.now) }
 {
@@ -60,7 +64,12 @@ fn body_of<'f>(edit: &Edit, resources: &[Resource], files: &'f [GivenFile]) -> &
 }
 
 /// The first line of a request that expects a revision.
-fn line_of(alloc: Global, method: &str, target: &str, revision: u64) -> Result<String, AllocError>
+pub(crate) fn line_of(
+    alloc: Global,
+    method: &str,
+    target: &str,
+    revision: u64,
+) -> Result<String, AllocError>
     ensures { IfOk result (λ line.
         string_bytes line ≡ spec.line_text method.now target.now revision) }
 {
@@ -68,7 +77,7 @@ fn line_of(alloc: Global, method: &str, target: &str, revision: u64) -> Result<S
 }
 
 /// The fields of a request for a body of this length.
-fn fields_of(alloc: Global, host: &str, length: usize) -> Result<String, AllocError>
+pub(crate) fn fields_of(alloc: Global, host: &str, length: usize) -> Result<String, AllocError>
     ensures { IfOk result (λ fields. string_bytes fields ≡ spec.fields_text host.now length) }
 {
     format!(in alloc; "Host: {host}\r\nContent-Length: {length}\r\n\r\n")
