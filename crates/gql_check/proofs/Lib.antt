@@ -1,7 +1,4 @@
 mod Lists
-mod Indices
-mod Marks
-mod Serving
+mod Names
 mod Refused
 mod Found
-mod Homes

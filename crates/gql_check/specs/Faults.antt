@@ -1,7 +1,7 @@
 -- Why the files of a folder are not checked.
 use Rattle.std.specs.Prelude.{ℕ, ◌≡◌, ◌+◌, List, [], ◌∷◌, ◌++◌, Option, Some, None, codes, length, slice_get}
 use Rattle.gql_ast.specs.declared.profile.Profile.{Profile}
-use Rattle.gql_check.specs.Loads.{IsFolderOf, folder_edits, folder_indices}
+use Rattle.gql_check.specs.Loads.{IsFolderOf, folder_edit, folder_indices}
 use Rattle.gql_check.specs.declared.fault.CheckFault.{CheckFault}
 use Rattle.gql_check.specs.declared.fault.CheckFault.TheVariants.{Empty, TooMany, Twice, Misnamed, Refused, Memory}
 use Rattle.gql_check.specs.declared.fault.FileFault.{FileFault}
@@ -10,8 +10,7 @@ use Rattle.gql_folder.specs.declared.folder.Folder.{Folder}
 use Rattle.gql_folder.specs.declared.folder.FolderFault.{FolderFault}
 use Rattle.gql_folder.specs.declared.folder.FolderFault.TheVariants as folder
 use Rattle.gql_folder.specs.declared.folder.GivenFile.{GivenFile}
-use Rattle.gql_registry.specs.Edits.{Edit, IsAccepted, IsFirstRefusal}
-use Rattle.gql_registry.specs.Loading.{IsRefusedAt}
+use Rattle.gql_registry.specs.Edits.{Change, Edit, IsAccepted, IsFirstRefusal, IsRefusedAt}
 use Rattle.gql_registry.specs.Refusals.{number_of, syntax_message}
 use Rattle.gql_registry.specs.State as state
 use Rattle.gql_registry.specs.declared.refusal.Refusal.{Refusal}
@@ -40,30 +39,30 @@ pub record IsFileFault (at : ℕ) (r : Refusal) (e : FileFault) : Type 0 where
   pub number : e.number ≡ number_of r
   pub reason : e.reason.now ≡ reason_of r
 
--- Of the first `count` of these edits, which put the files at these indices, those that are
--- refused, in their order. The edits before the first of them are accepted in turn by a new
+-- Of the first `count` of these changes, which put the files at these indices, those that are
+-- refused, in their order. The changes before the first of them are accepted in turn by a new
 -- registry of this profile, and it is refused in the state that they leave; each of the others is
 -- refused by a new registry.
-pub data AreRefused (p : Profile) (edits : List Edit) (indices : List ℕ)
+pub data AreRefused (p : Profile) (changes : Edit) (indices : List ℕ)
     : ℕ → List FileFault → Type 0 where
   -- the first file that is refused
   first_refused : {file : ℕ} {e : FileFault} (at : ℕ) (r : Refusal)
-      → IsRefusedAt (state.empty_in p) edits at r → slice_get indices at ≡ Some file → IsFileFault file r e
-      → AreRefused p edits indices (at + 1) (e ∷ [])
+      → IsRefusedAt (state.empty_in p) changes at r → slice_get indices at ≡ Some file → IsFileFault file r e
+      → AreRefused p changes indices (at + 1) (e ∷ [])
   -- a file after it is refused, too
-  also_refused : {es : List FileFault} {file : ℕ} {e : FileFault} (at : ℕ) (edit : Edit)
-      (r : Refusal) → AreRefused p edits indices at es → slice_get edits at ≡ Some edit
-      → IsFirstRefusal (state.empty_in p) None edit r → slice_get indices at ≡ Some file
-      → IsFileFault file r e → AreRefused p edits indices (at + 1) (es ++ e ∷ [])
+  also_refused : {es : List FileFault} {file : ℕ} {e : FileFault} (at : ℕ) (change : Change)
+      (r : Refusal) → AreRefused p changes indices at es → slice_get changes at ≡ Some change
+      → IsFirstRefusal (state.empty_in p) change r → slice_get indices at ≡ Some file
+      → IsFileFault file r e → AreRefused p changes indices (at + 1) (es ++ e ∷ [])
   -- a file after it is accepted
-  also_accepted : {es : List FileFault} (at : ℕ) (edit : Edit) → AreRefused p edits indices at es
-      → slice_get edits at ≡ Some edit → IsAccepted (state.empty_in p) None edit
-      → AreRefused p edits indices (at + 1) es
+  also_accepted : {es : List FileFault} (at : ℕ) (change : Change) → AreRefused p changes indices at es
+      → slice_get changes at ≡ Some change → IsAccepted (state.empty_in p) change
+      → AreRefused p changes indices (at + 1) es
 
 -- these are the files of a folder that are refused
 abbrev pub AreRefusedFiles : Profile → List GivenFile → Folder → List FileFault → Type 0
 AreRefusedFiles p given f es =
-    AreRefused p (folder_edits given f) (folder_indices f) (length (folder_edits given f)) es
+    AreRefused p (folder_edit given f) (folder_indices f) (length (folder_edit given f)) es
 
 -- the files of a folder are refused
 abbrev pub IsRefusal : Profile → List GivenFile → Folder → CheckFault → Type 0

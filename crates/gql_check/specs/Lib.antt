@@ -1,9 +1,5 @@
-pub mod Affected
 pub mod Checks
 pub mod Faults
-pub mod Findings
-pub mod Homes
+pub mod GivenSources
 pub mod Loads
-pub mod Owners
-pub mod Spots
 pub mod Steps

@@ -1,136 +1,51 @@
 -- Helper definitions for private contracts: what the parts of a check come to.
-use Rattle.std.specs.Prelude.{ℕ, ◌≡◌, List, [], ◌∷◌, ◌++◌, Bool, true, false, Contains, Option, Some, None, length}
-use Rattle.std.specs.BTreeMap.{BTreeMap, get}
-use Rattle.std.specs.BTreeSet.{BTreeSet, contains}
-use Rattle.std.specs.Ordering.{nat_cmp, ordering_then}
-use Rattle.std.specs.declared.cmp.Ordering.{Ordering}
-use Rattle.gql_ast.specs.FileMaps.{name_order}
-use Rattle.gql_ast.specs.Trees as trees
-use Rattle.gql_ast.specs.declared.definition.Definition.{Definition}
-use Rattle.gql_ast.specs.declared.executable.Operation.{Operation}
-use Rattle.gql_ast.specs.declared.fault.Fault.{Fault}
-use Rattle.gql_ast.specs.declared.fault.FilePlace.{FilePlace}
+use Rattle.std.specs.Prelude.{◌≡◌, ℕ, List, Option, Some, None, if◌then◌else◌, length}
+use Rattle.std.specs.Option.{option_or}
+use Rattle.gql_ast.specs.declared.fault.FileSide.{FileSide}
 use Rattle.gql_ast.specs.declared.profile.Profile.{Profile}
-use Rattle.gql_check.specs.Affected.{AreAffected, Breaks, definition_of}
 use Rattle.gql_check.specs.Faults.{AreRefused, AreRefusedFiles}
-use Rattle.gql_check.specs.Loads.{folder_edits, folder_indices}
-use Rattle.gql_check.specs.Owners.{is_at, is_owner, name_of}
-use Rattle.gql_check.specs.Spots.{index_in}
-use Rattle.gql_check.specs.declared.affected.Against.{Against}
-use Rattle.gql_check.specs.declared.affected.Against.TheVariants.{Nothing, Own, Fragment}
+use Rattle.gql_check.specs.GivenSources.{index_in}
+use Rattle.gql_check.specs.Loads.{folder_edit, folder_indices}
 use Rattle.gql_check.specs.declared.fault.CheckFault.{CheckFault}
 use Rattle.gql_check.specs.declared.fault.CheckFault.TheVariants.{Refused, Memory}
 use Rattle.gql_check.specs.declared.loading.Puts.{Puts}
-use Rattle.gql_check.specs.declared.owners.Owners.{Owners}
-use Rattle.gql_facts.specs.Worlds.{Facts}
-use Rattle.gql_facts.specs.declared.fact.FragmentFact.{FragmentFact}
-use Rattle.gql_findings.specs.declared.finding.Affected.{Affected}
-use Rattle.gql_findings.specs.declared.finding.Spot.{Spot}
 use Rattle.gql_folder.specs.declared.folder.Folder.{Folder}
 use Rattle.gql_folder.specs.declared.folder.GivenFile.{GivenFile}
 use Rattle.gql_folder.specs.declared.folder.NamedFile.{NamedFile}
-use Rattle.gql_registry.specs.Edits.{Edit, IsAccepted, IsFirstRefusal}
-use Rattle.gql_registry.specs.Loading.{edits_of}
+use Rattle.gql_found.specs.Spots.{index_of, same_side}
+use Rattle.gql_found.specs.declared.sources.Sources.{Sources}
+use Rattle.gql_registry.specs.Changes.{edit_of}
+use Rattle.gql_registry.specs.Edits.{Change, IsAccepted, IsFirstRefusal}
 use Rattle.gql_registry.specs.State.{empty_in}
 use Rattle.gql_registry.specs.declared.refusal.Refusal.{Refusal}
 
--- ---- places
+-- ---- names of files
 
--- no two of these files have one name
-abbrev pub AreDistinct : List NamedFile → Type 0
-AreDistinct named = (f g : NamedFile) → Contains named f → Contains named g → f.name ≡ g.name
-    → f ≡ g
+-- the index that these files of a side give to a name of a side
+abbrev pub index_among : FileSide → List NamedFile → FileSide → List ℕ → Option ℕ
+index_among side named other q = if same_side side other then index_in named q else None
 
--- the map has the index of each name
-abbrev pub IsIndex : List NamedFile → BTreeMap (List ℕ) ℕ → Type 0
-IsIndex named m = (name : List ℕ) → get name_order m name ≡ index_in named name
-
--- the maps have the indices of the names of a folder
-pub record AreIndices (f : Folder) (schema documents : BTreeMap (List ℕ) ℕ) : Type 0 where
-  pub of_schema : IsIndex f.schema.items schema
-  pub of_documents : IsIndex f.documents.items documents
-
--- ---- owners
-
--- what was found among these definitions at a place: one that starts there, or none if none does
-abbrev pub IsFoundIn : List Definition → FilePlace → Option Definition → Type 0
-IsFoundIn definitions p None = (d : Definition) → Contains definitions d → is_at p d ≡ true → ⊥
-IsFoundIn definitions p (Some d) = Contains definitions d × (is_at p d ≡ true)
-
--- what a set has of a definition: its file, and its offset there
-abbrev pub mark_of : Definition → List ℕ × ℕ
-mark_of d = (d.file, (trees.place_of d.tree).offset)
-
--- the order of these
-abbrev pub mark_order : List ℕ × ℕ → List ℕ × ℕ → Ordering
-mark_order a b = ordering_then (name_order a.0 b.0) (nat_cmp a.1 b.1)
-
--- whether a set has a definition
-abbrev pub is_marked : BTreeSet (List ℕ × ℕ) → Definition → Bool
-is_marked marks d = contains mark_order marks (mark_of d)
-
--- whether a definition is one of these owners
-abbrev pub owns : Owners → Definition → Bool
-owns o d = is_marked o.marks d
-
--- these are the definitions that own faults
-abbrev pub AreOwners : List Fault → Owners → Type 0
-AreOwners faults o = (d : Definition) → owns o d ≡ is_owner faults d
-
--- ---- operations that are not served
-
--- what keeps the definition from being served
-abbrev pub IsAgainst : Facts → (Definition → Bool) → Definition → Against → Type 0
-IsAgainst facts owns d Nothing = (through : Option (List ℕ)) → Breaks facts owns d through → ⊥
-IsAgainst facts owns d Own = Breaks facts owns d None
-IsAgainst facts owns d (Fragment name) = Breaks facts owns d (Some name)
-
--- what keeps a definition from being served that owns no fault and reaches these fragments
-abbrev pub IsAgainstBy : (Definition → Bool) → List FragmentFact → Against → Type 0
-IsAgainstBy owns members Nothing = (g : FragmentFact) → Contains members g
-    → owns (definition_of g) ≡ false
-IsAgainstBy owns members Own = ⊥
-IsAgainstBy owns members (Fragment name) = (g : FragmentFact) × Contains members g
-    × (owns (definition_of g) ≡ true) × (name ≡ g.fragment.name.text)
-
--- an operation that is not served, by what stands against it
-abbrev pub against_in : Operation → Spot → Against → List Affected
-against_in o spot Nothing = []
-against_in o spot Own = record {
-  kind = o.kind;
-  name = name_of o;
-  spot = spot;
-  through = None;
-} ∷ []
-against_in o spot (Fragment name) = record {
-  kind = o.kind;
-  name = name_of o;
-  spot = spot;
-  through = Some name;
-} ∷ []
-
--- the operations of one definition more
-abbrev pub AddsAffected : Folder → Facts → (Definition → Bool) → Definition → List Affected
-    → List Affected → Type 0
-AddsAffected f facts owns d old new = (ds : List Definition) → AreAffected f facts owns ds old
-    → AreAffected f facts owns (ds ++ d ∷ []) new
+-- each name has the index that it had, or else that of these files of a side
+abbrev pub AreNamedAll : FileSide → List NamedFile → Sources → Sources → Type 0
+AreNamedAll side named old new = (other : FileSide) (q : List ℕ)
+    → index_of new other q ≡ option_or (index_of old other q) (index_among side named other q)
 
 -- ---- files that are put
 
--- the puts of the files of a folder, and the index of each file
+-- the changes that put the files of a folder, and the index of each file
 pub record ArePuts (given : List GivenFile) (f : Folder) (p : Puts) : Type 0 where
-  pub edits : edits_of p.puts.items ≡ folder_edits given f
+  pub edit : edit_of p.puts.items ≡ folder_edit given f
   pub indices : p.indices.items ≡ folder_indices f
 
--- what a new registry of this profile answers to an edit: nothing if it accepts it, or its refusal
-abbrev pub IsAnswer : Profile → Edit → Option Refusal → Type 0
-IsAnswer p e None = IsAccepted (empty_in p) None e
-IsAnswer p e (Some r) = IsFirstRefusal (empty_in p) None e r
+-- what a new registry of this profile answers to a change: nothing if it accepts it, or its refusal
+abbrev pub IsAnswer : Profile → Change → Option Refusal → Type 0
+IsAnswer p c None = IsAccepted (empty_in p) c
+IsAnswer p c (Some r) = IsFirstRefusal (empty_in p) c r
 
 -- The files that are refused when all are put, or that an allocation failed.
 abbrev pub IsPutFault : Profile → Puts → CheckFault → Type 0
 IsPutFault profile p (Refused es) =
-    AreRefused profile (edits_of p.puts.items) p.indices.items (length p.puts.items) es.items
+    AreRefused profile (edit_of p.puts.items) p.indices.items (length p.puts.items) es.items
 IsPutFault profile p Memory = Unit {0}
 IsPutFault profile p _ = ⊥
 

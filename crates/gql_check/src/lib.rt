@@ -2,15 +2,9 @@
 //! one by one.
 #![tactic(auto)]
 
-mod affected;
 mod check;
 mod fault;
-mod finding;
-mod home;
 mod loading;
-mod operations;
-mod owners;
-mod places;
 mod refusals;
 mod sources;
 mod words;

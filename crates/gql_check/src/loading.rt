@@ -1,25 +1,26 @@
 //! The files of a folder, put into a new registry.
 
-ghost use Rattle.std.specs.Prelude.{◌≡◌, ◌≢◌, ◌==◌, ◌<◌, ◌++◌, [], IfErr, IfOk, OnOk, length, map};
+ghost use Rattle.std.specs.Prelude.{◌≡◌, ◌≢◌, ◌==◌, ◌<◌, ◌++◌, [], None, IfErr, IfOk, OnOk, length, map};
 ghost use Rattle.gql_check.specs.Faults as fault;
 ghost use Rattle.gql_check.specs.Faults.{IsFault};
 ghost use Rattle.gql_check.specs.Loads as spec;
-ghost use Rattle.gql_check.specs.Loads.{IsFolderOf, IsLoaded, folder_edits, folder_indices, indices_of, put_on};
+ghost use Rattle.gql_check.specs.Loads.{IsFolderOf, IsLoaded, folder_edit, folder_indices, indices_of, put_on};
 ghost use Rattle.gql_check.specs.Steps.{ArePuts, IsLoadFault};
-ghost use Rattle.gql_registry.specs.Loading.{MakesAll, edit_of, edits_of};
+ghost use Rattle.gql_registry.specs.Changes.{edit_of};
+ghost use Rattle.gql_registry.specs.Edits.{Accepts};
 ghost use Rattle.gql_registry.specs.State.{empty_in, state_of};
 
 use crate::fault::CheckFault;
 use crate::refusals::put_fault;
 use gql_ast::{FileSide, Profile};
 use gql_folder::{Folder, GivenFile, NamedFile, read_folder};
-use gql_registry::{GivenPut, Registry};
+use gql_registry::{Change, Registry};
 use gql_verdict::Meter;
 use std::alloc::{AllocError, Global};
 
-/// Files and data that are put, and the index of each among the files given.
+/// The changes that put files and data, and the index of each among the files given.
 pub struct Puts<'g> {
-    pub puts: Vec<GivenPut<'g>>,
+    pub puts: Vec<Change<'g>>,
     pub indices: Vec<usize>,
 }
 
@@ -49,13 +50,13 @@ fn add_side<'g>(
     given: &'g [GivenFile],
     puts: &mut Puts<'g>,
 ) -> Result<(), AllocError>
-    ensures edits { OnOk result (edits_of puts.new.puts.items
-        ≡ edits_of puts.old.puts.items ++ map (put_on side given.now) named.now) }
+    ensures edit { OnOk result (edit_of puts.new.puts.items
+        ≡ edit_of puts.old.puts.items ++ map (put_on side given.now) named.now) }
     ensures indices { OnOk result (puts.new.indices.items
         ≡ puts.old.indices.items ++ indices_of named.now) }
 {
     for file in named {
-        puts.puts.push(GivenPut::File {
+        puts.puts.push(Change::Put {
             side,
             name: file.name.copy()?,
             bytes: bytes_at(given, file.at),
@@ -71,13 +72,13 @@ fn add_data<'g>(
     given: &'g [GivenFile],
     puts: &mut Puts<'g>,
 ) -> Result<(), AllocError>
-    ensures edits { OnOk result (edits_of puts.new.puts.items
-        ≡ edits_of puts.old.puts.items ++ spec.data_edits given.now data_at) }
+    ensures edit { OnOk result (edit_of puts.new.puts.items
+        ≡ edit_of puts.old.puts.items ++ spec.data_changes given.now data_at) }
     ensures indices { OnOk result (puts.new.indices.items
         ≡ puts.old.indices.items ++ spec.data_indices data_at) }
 {
     if let Some(at) = data_at {
-        puts.puts.push(GivenPut::Data {
+        puts.puts.push(Change::PutData {
             bytes: bytes_at(given, at),
         })?;
         puts.indices.push(at)?;
@@ -127,7 +128,7 @@ pub fn folder_of(alloc: Global, profile: Profile, given: &[GivenFile]) -> Result
     Ok(folder)
 }
 
-/// The registry that putting the files of a folder one by one into a new one of this profile leaves.
+/// The registry that putting the files of a folder into a new one of this profile leaves.
 pub fn load(
     alloc: Global,
     profile: Profile,
@@ -135,21 +136,21 @@ pub fn load(
     given: &[GivenFile],
 ) -> Result<Registry, CheckFault>
     ensures loaded { IfOk result (λ r.
-        MakesAll (empty_in profile) (folder_edits given.now folder.now) (state_of r)) }
+        Accepts (empty_in profile) None (folder_edit given.now folder.now) (state_of r)) }
     ensures err { IfErr result (IsLoadFault profile given.now folder.now) }
 {
     let puts = puts_of(alloc, folder, given)?;
-    let mut registry = Registry::with(alloc, profile);
+    let mut registry = Registry::with(alloc, profile)?;
     let mut meter = Meter::new(alloc);
-    match registry.put_all(puts.puts.as_slice(), &mut meter) {
+    match registry.edit(puts.puts.as_slice(), None, &mut meter) {
         Ok(_) => Ok(registry),
         Err(refused) => Err(put_fault(alloc, profile, &puts, &refused)),
     }
 }
 
-/// The registry that putting these files of a folder one by one into a new one of this profile
-/// leaves. It is refused if none of them is a file of a registry, if their paths are not those of a
-/// registry's files, and with all files that the registry refuses.
+/// The registry that putting these files of a folder into a new one of this profile leaves. It is
+/// refused if none of them is a file of a registry, if their paths are not those of a registry's
+/// files, and with all files that the registry refuses.
 pub fn load_files(
     alloc: Global,
     profile: Profile,

@@ -1,32 +1,33 @@
 //! The files that a registry refuses: all of them, not only the first.
 
-ghost use Rattle.std.specs.Prelude.{◌+◌, IfOk, OnOk, length};
+ghost use Rattle.std.specs.Prelude.{◌+◌, None, IfOk, OnOk, length};
 ghost use Rattle.gql_check.specs.Faults.{AreRefused};
 ghost use Rattle.gql_check.specs.Steps.{IsAnswer, IsPutFault};
-ghost use Rattle.gql_registry.specs.Loading.{IsLoadRefusal, edit_of, edits_of};
+ghost use Rattle.gql_registry.specs.Changes.{change_of, edit_of};
+ghost use Rattle.gql_registry.specs.Edits.{IsRefused};
 ghost use Rattle.gql_registry.specs.State.{empty_in};
 
 use crate::fault::{CheckFault, FileFault, file_fault};
 use crate::loading::Puts;
 use gql_ast::Profile;
-use gql_registry::{GivenPut, PutRefusal, Refusal, Registry};
+use gql_registry::{Change, EditRefusal, Refusal, Registry};
 use gql_verdict::Meter;
 use std::alloc::{AllocError, Global};
 use std::slice;
 
-/// Why a new registry of this profile refuses a file; nothing if it accepts it.
+/// Why a new registry of this profile refuses to put a file; nothing if it accepts it.
 fn refusal_of(
     alloc: Global,
     profile: Profile,
-    put: &GivenPut<'_>,
+    change: &Change<'_>,
 ) -> Result<Option<Refusal>, AllocError>
-    ensures { IfOk result (IsAnswer profile (edit_of put.now)) }
+    ensures { IfOk result (IsAnswer profile (change_of change.now)) }
 {
-    let mut registry = Registry::with(alloc, profile);
+    let mut registry = Registry::with(alloc, profile)?;
     let mut meter = Meter::new(alloc);
-    match registry.put_all(slice::from_ref(put), &mut meter) {
+    match registry.edit(slice::from_ref(change), None, &mut meter) {
         Ok(_) => Ok(None),
-        Err(PutRefusal { at: _, refusal }) => match refusal {
+        Err(EditRefusal { at: _, refusal }) => match refusal {
             Refusal::Memory => Err(AllocError),
             refusal => Ok(Some(refusal)),
         },
@@ -41,9 +42,9 @@ fn add_refused(
     at: usize,
     refused: &mut Vec<FileFault>,
 ) -> Result<(), AllocError>
-    ensures { OnOk result (AreRefused profile (edits_of puts.now.puts.items)
+    ensures { OnOk result (AreRefused profile (edit_of puts.now.puts.items)
         puts.now.indices.items at refused.old.items → AreRefused profile
-        (edits_of puts.now.puts.items) puts.now.indices.items (at + 1) refused.new.items) }
+        (edit_of puts.now.puts.items) puts.now.indices.items (at + 1) refused.new.items) }
 {
     let (Some(put), Some(file)) = (puts.puts.get(at), puts.indices.get(at)) else {
         return Err(AllocError);
@@ -59,11 +60,10 @@ fn refused_files(
     alloc: Global,
     profile: Profile,
     puts: &Puts<'_>,
-    first: &PutRefusal,
+    first: &EditRefusal,
 ) -> Result<Vec<FileFault>, AllocError>
-    requires { IsLoadRefusal (empty_in profile) (edits_of puts.now.puts.items)
-        first.now.at first.now.refusal }
-    ensures { IfOk result (λ files. AreRefused profile (edits_of puts.now.puts.items)
+    requires { IsRefused (empty_in profile) None (edit_of puts.now.puts.items) first.now }
+    ensures { IfOk result (λ files. AreRefused profile (edit_of puts.now.puts.items)
         puts.now.indices.items (length puts.now.puts.items) files.items) }
 {
     let mut refused = Vec::new(alloc);
@@ -82,9 +82,13 @@ fn refused_files(
 
 /// Why files are not put: the refusals of the first that is refused, and of each after it that a
 /// new registry refuses.
-pub fn put_fault(alloc: Global, profile: Profile, puts: &Puts<'_>, first: &PutRefusal) -> CheckFault
-    requires { IsLoadRefusal (empty_in profile) (edits_of puts.now.puts.items)
-        first.now.at first.now.refusal }
+pub fn put_fault(
+    alloc: Global,
+    profile: Profile,
+    puts: &Puts<'_>,
+    first: &EditRefusal,
+) -> CheckFault
+    requires { IsRefused (empty_in profile) None (edit_of puts.now.puts.items) first.now }
     ensures { IsPutFault profile puts.now result }
 {
     match refused_files(alloc, profile, puts, first) {

@@ -1,11 +1,15 @@
-//! The files given, with their paths below a folder.
+//! The files given, as the files of a check.
 
-ghost use Rattle.std.specs.Prelude.{◌≡◌, ◌++◌, [], IfOk, IsUtf8, codes, string_bytes};
+ghost use Rattle.std.specs.Prelude.{◌≡◌, ◌++◌, [], IfOk, IsUtf8, OnOk, codes, string_bytes};
 ghost use Rattle.std.specs.List.{AllZip};
-ghost use Rattle.gql_check.specs.Findings.{IsSource};
+ghost use Rattle.gql_check.specs.GivenSources.{AreSources, IsSource};
+ghost use Rattle.gql_check.specs.Steps.{AreNamedAll};
+ghost use Rattle.gql_found.specs.Spots.{HaveSameNames, files_of};
 
+use gql_ast::FileSide;
 use gql_findings::Source;
-use gql_folder::GivenFile;
+use gql_folder::{Folder, GivenFile, NamedFile};
+use gql_found::Sources;
 use std::alloc::{AllocError, Global};
 use std::str;
 
@@ -42,17 +46,52 @@ fn source_of(alloc: Global, folder: &str, file: &GivenFile) -> Result<Source, Al
     Ok(source)
 }
 
-/// The files given, each with its path below this folder.
+/// Adds the files given, each with its path below this folder.
+fn add_given(
+    alloc: Global,
+    folder: &str,
+    files: &[GivenFile],
+    sources: &mut Sources,
+) -> Result<(), AllocError>
+    requires { files_of sources.old ≡ [] }
+    ensures listed { OnOk result (AllZip (IsSource folder.now) files.now (files_of sources.new)) }
+    ensures names { OnOk result (HaveSameNames sources.old sources.new) }
+{
+    for file in files {
+        let source = source_of(alloc, folder, file)?;
+        sources.push(source)?;
+    }
+    Ok(())
+}
+
+/// Gives their names to the files of a side.
+fn name_side(side: FileSide, named: &[NamedFile], sources: &mut Sources) -> Result<(), AllocError>
+    ensures listed { OnOk result (files_of sources.new ≡ files_of sources.old) }
+    ensures names { OnOk result (AreNamedAll side named.now sources.old sources.new) }
+{
+    for file in named {
+        sources.put_name(side, file.name.copy()?, file.at)?;
+    }
+    Ok(())
+}
+
+/// The files given, each with its path below this folder, and under the name that it has in a
+/// registry.
 pub fn sources_of(
     alloc: Global,
     folder: &str,
     files: &[GivenFile],
-) -> Result<Vec<Source>, AllocError>
-    ensures { IfOk result (λ sources. AllZip (IsSource folder.now) files.now sources.items) }
+    named: &Folder,
+) -> Result<Sources, AllocError>
+    ensures { IfOk result (AreSources folder.now files.now named.now) }
 {
-    let mut sources = Vec::new(alloc);
-    for file in files {
-        sources.push(source_of(alloc, folder, file)?)?;
-    }
+    let mut sources = Sources::new(alloc);
+    add_given(alloc, folder, files, &mut sources)?;
+    name_side(FileSide::Schema, named.schema.as_slice(), &mut sources)?;
+    name_side(
+        FileSide::Documents,
+        named.documents.as_slice(),
+        &mut sources,
+    )?;
     Ok(sources)
 }

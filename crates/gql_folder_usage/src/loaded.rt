@@ -27,7 +27,7 @@ pub struct Loaded {
 fn test_schema(registry: &Registry) -> Result<(), UsageFault>
     ensures { OnOk result (IsSound (state_of registry.now).files) }
 {
-    if registry.is_sound()? {
+    if registry.is_sound() {
         return Ok(());
     }
     let faults = registry.report()?.len();

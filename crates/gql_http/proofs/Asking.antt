@@ -2,7 +2,7 @@
 use Rattle.std.proofs.Common.{◌≡◌, ℕ, List, Some, Result, Ok, Err, IfOk, IfErr, IsUtf8, subst}
 use Rattle.serde_json.specs.Data.{Data}
 use Rattle.serde_json.specs.Read.{read}
-use Rattle.gql_http.specs.RunBodies.{Asked, Asks, asked_by, bad_call, call, reads, stored_only}
+use Rattle.gql_http.specs.RunBodies.{Asked, Asks, asked_by, call, reads}
 use Rattle.gql_http.specs.ReadBodies.{IsFault, IsRefused, name_of, variables_of}
 use Rattle.gql_http.specs.declared.run_body.RunBody.{RunBody}
 use Rattle.gql_http.specs.declared.run_body.RunBodyFault.{RunBodyFault}

@@ -1,34 +1,38 @@
 -- A request, a list of requests and an event each have one answer and leave one state.
-use Rattle.std.proofs.Common.{◌≡◌, ℕ, List, ◌∷◌, ◌++◌, take, Option, Some, None, IsSome, Result, Err, refl, sym, ap, ap₂, ◌∙◌, subst}
+use Rattle.std.proofs.Common.{◌≡◌, ℕ, Bool, List, ◌∷◌, ◌++◌, take, Option, Some, None, IsSome, Result, Err, refl, sym, ap, ap₂, ◌∙◌, subst}
 use Rattle.gql_http.specs.RunBodies as ask
 use Rattle.gql_http.specs.RunBodies.{Asked, Asks, asked_by, reads, not_json, not_text}
 use Rattle.gql_registry.specs.Calls.{Answers, CallOutcome, effects_in, text_of}
-use Rattle.gql_registry.specs.Edits as edit
-use Rattle.gql_registry.specs.Laws.{OneAnswer as OneCall, OneEdit, OneReport, WasMade}
-use Rattle.gql_registry.specs.State.{State, with_effects}
+use Rattle.gql_registry.specs.Edits.{Edit, Makes}
+use Rattle.gql_registry.specs.Laws.{OneAnswer as OneCall, OneEdit, OneReport}
+use Rattle.gql_registry.specs.State.{State, profile_of, with_effects}
 use Rattle.gql_stored.specs.Effects.{Effect}
+use Rattle.gql_registry.specs.declared.change.EditRefusal.{EditRefusal}
 use Rattle.gql_registry.specs.declared.refusal.Refusal.{Refusal}
 use Rattle.gql_registry.specs.declared.refusal.Refusal.TheVariants.{Memory}
 use Rattle.gql_registry.specs.declared.registry.Edited.{Edited}
 use Rattle.gql_wire.specs.Head.{is_head}
 use Rattle.gql_wire.specs.Stream.{request, refused as refused_head}
 use Rattle.gql_wire.specs.Laws.{OneSplit}
-use Rattle.gql_http.specs.Answers.{Said, answer_bytes, edit_said, report_said, run_said}
+use Rattle.gql_http.specs.Answers.{Said, answer_bytes, report_said, run_said}
 use Rattle.gql_http.specs.Connections.{requests_of, joined, held_after, Serves, Breaks}
+use Rattle.gql_http.specs.Editing.{Edits, edit_said, makes, names_changes, no_batch}
 use Rattle.gql_http.specs.Events.{with_connection, does_open, does_feed, does_break, does_close, ignores}
 use Rattle.gql_http.specs.Laws.{OneStep, OneRun, OneDeed}
-use Rattle.gql_http.specs.Limits.{limit_in, name_limit_in}
-use Rattle.gql_http.specs.Routes.{Call, report, put, remove, put_data, run, refused, call_of}
-use Rattle.gql_http.specs.Service.{Calls, Edits, Run, Runs, calls, gives_text, bad_body, done, more}
+use Rattle.gql_http.specs.Limits.{limit_in}
+use Rattle.gql_http.specs.Routes.{Call, EditKind, report, edit, run, refused, call_of}
+use Rattle.gql_http.specs.Service.{Calls, Run, Runs, calls, gives_text, bad_body, done, more}
 use Rattle.serde_json.specs.Data.{Data}
 use Rattle.serde_json.specs.Read.{read}
+use Rattle.gql_http.proofs.Batches.{one_asked as one_asked_edit}
 use Rattle.gql_http.proofs.Joining.{some_same}
+use Rattle.gql_http.proofs.Refusing.{said_made}
 
-pub said_made : (r : Result Edited Refusal) (a : Said) → edit_said r ≡ Some a → WasMade r
-said_made r a said is = let none : ◌≡◌ {A = Option Said} None (Some a) = subst (λ q. edit_said q ≡ Some a) is said in cc
+one_said : (named : Bool) (e : Edit) (r q : Result Edited EditRefusal) (a b : Said) → edit_said named e r ≡ Some a → edit_said named e q ≡ Some b → r ≡ q → a ≡ b
+one_said named e r q a b x y same = let some : ◌≡◌ {A = Option Said} (Some a) (Some b) = sym x ∙ ap (edit_said named e) same ∙ y in cc
 
-one_said : (r q : Result Edited Refusal) (a b : Said) → edit_said r ≡ Some a → edit_said q ≡ Some b → r ≡ q → a ≡ b
-one_said r q a b x y same = let some : ◌≡◌ {A = Option Said} (Some a) (Some b) = sym x ∙ ap edit_said same ∙ y in cc
+some_edit : (e g : Edit) → Some e ≡ Some g → e ≡ g
+some_edit e g same = cc same
 
 -- a body asks for one thing
 read_same : (r : Option Data) (d e : Data) → r ≡ Some d → r ≡ Some e → d ≡ e
@@ -77,22 +81,30 @@ module _ (edits : OneEdit) (calls_one : OneCall) (reports : OneReport) where
   one_run_answer s body _ _ _ _ (bad_body asks) (gives_text also) = let clash : ask.bad_call ≡ ask.stored_only = one_asked body _ _ asks also in absurd (cc clash)
   one_run_answer s body _ _ _ _ (bad_body asks) (bad_body also) = (refl, refl)
 
-  one_answer : (s t u : State) (expected : Option ℕ) (e : edit.Edit) (a b : Said) → Edits s expected e a t → Edits s expected e b u → (a ≡ b) × (t ≡ u)
-  one_answer s t u expected e a b h k =
-      let same = edits s t u expected e h.0 k.0 h.2 k.2 (said_made h.0 a h.1) (said_made k.0 b k.1) in
-      (one_said h.0 k.0 a b h.1 k.1 same.0, same.1)
+  -- an edit that two bodies of an answer are of
+  one_made : (s t u : State) (expected : Option ℕ) (kind : EditKind) (e g : Edit) (r q : Result Edited EditRefusal) (a b : Said) → e ≡ g → edit_said (names_changes kind) e r ≡ Some a → Makes s expected e r t
+      → edit_said (names_changes kind) g q ≡ Some b → Makes s expected g q u → (a ≡ b) × (t ≡ u)
+  one_made s t u expected kind e g r q a b is said h also k =
+      let moved : edit_said (names_changes kind) e q ≡ Some b = subst (λ x. edit_said (names_changes kind) x q ≡ Some b) (sym is) also in
+      let same = edits s t u expected e r q h (subst (λ x. Makes s expected x q u) (sym is) k) (said_made (names_changes kind) e r a said) (said_made (names_changes kind) e q b moved) in
+      (one_said (names_changes kind) e r q a b said moved same.0, same.1)
+
+  one_answer : (s t u : State) (expected : Option ℕ) (kind : EditKind) (body : List ℕ) (a b : Said) → Edits s expected kind body a t → Edits s expected kind body b u → (a ≡ b) × (t ≡ u)
+  one_answer s _ _ expected kind body _ _ (makes e r {a = a} {t = t} asks said h) (makes g q {a = b} {t = u} others also k) =
+      one_made s t u expected kind e g r q a b (some_edit e g (one_asked_edit (profile_of s) kind body (Some e) (Some g) asks others)) said h also k
+  one_answer s _ _ expected kind body _ _ (makes e r asks said h) (no_batch others) = let clash : Some e ≡ None = one_asked_edit (profile_of s) kind body (Some e) None asks others in absurd (cc clash)
+  one_answer s _ _ expected kind body _ _ (no_batch asks) (makes g q others also k) = let clash : Some g ≡ None = one_asked_edit (profile_of s) kind body (Some g) None others asks in absurd (cc clash)
+  one_answer s _ _ expected kind body _ _ (no_batch asks) (no_batch others) = (refl, refl)
 
   one_call : (s t u : State) (call : Call) (body : List ℕ) (a b : Said) → Calls s call body a t → Calls s call body b u → (a ≡ b) × (t ≡ u)
   one_call s t u report body a b h k = (h.0.2 ∙ ap (report_said s.revision) (reports s.files h.0.0 k.0.0 h.0.1 k.0.1) ∙ sym k.0.2, h.1 ∙ sym k.1)
-  one_call s t u (put side name expected) body a b h k = one_answer s t u expected (edit.put side name body) a b h k
-  one_call s t u (remove side name expected) body a b h k = one_answer s t u expected (edit.remove side name) a b h k
-  one_call s t u (put_data expected) body a b h k = one_answer s t u expected (edit.put_data body) a b h k
+  one_call s t u (edit kind expected) body a b h k = one_answer s t u expected kind body a b h k
   one_call s t u run body a b h k = let same = one_run_answer s body a b h.0 k.0 h.1 k.1 in (same.0, h.2 ∙ ap (with_effects s) same.1 ∙ sym k.2)
   one_call s t u (refused said) body a b h k = (h.0 ∙ sym k.0, h.1 ∙ sym k.1)
 
   pub one_step_lem : OneStep
   one_step_lem s t u (request method target body closing) a b h k =
-      let same = one_call s t u (call_of (name_limit_in s) method target) body h.0 k.0 h.1 k.1 in
+      let same = one_call s t u (call_of (profile_of s) method target) body h.0 k.0 h.1 k.1 in
       (h.2 ∙ ap (answer_bytes closing (is_head method)) same.0 ∙ sym k.2, same.1)
   one_step_lem s t u (refused_head refusal bodiless) a b h k = (h.0 ∙ sym k.0, h.1 ∙ sym k.1)
 

@@ -1,9 +1,13 @@
+pub mod Answering
 pub mod Appended
 pub mod Asking
+pub mod Batches
+pub mod BatchLists
 pub mod DataPresence
 pub mod Deeds
 pub mod Determined
 pub mod Exchanging
+pub mod FoundNames
 pub mod Framers
 pub mod Joining
 pub mod KeptLimit
@@ -15,6 +19,9 @@ pub mod PipeConnections
 pub mod Presence
 pub mod Queries
 pub mod Refused
+pub mod Refusing
+pub mod RequestDeeds
 pub mod Revisions
 pub mod Serving
 pub mod TwoParts
+pub mod WithoutBatches

@@ -1,8 +1,10 @@
 -- The laws of the service and its hub. `src/laws.rt` has a function for each.
-use Rattle.std.specs.Prelude.{ℕ, ◌+◌, ◌≡◌, List, [], ◌∷◌, ◌++◌, Bool, Some, None}
+use Rattle.std.specs.Prelude.{ℕ, ◌+◌, ◌≡◌, List, [], ◌∷◌, ◌++◌, Bool, false, Option, Some, None}
+use Rattle.gql_ast.specs.Profiles.{whole_numbers}
 use Rattle.gql_ast.specs.declared.fault.Fault.{Fault}
 use Rattle.gql_ast.specs.declared.fault.FileSide.{FileSide}
 use Rattle.gql_ast.specs.declared.profile.Profile.{Profile}
+use Rattle.gql_registry.specs.Edits.{Change, Edit}
 use Rattle.gql_registry.specs.Laws.{under}
 use Rattle.gql_registry.specs.Report.{IsReport}
 use Rattle.gql_registry.specs.State.{State, empty_in, profile_of, with_effects}
@@ -12,11 +14,21 @@ use Rattle.gql_wire.specs.Stream.{Req, request, Placed, Requests}
 use Rattle.gql_http.specs.Answers.{Said, answer_bytes, report_said}
 use Rattle.gql_http.specs.Connections.{requests_of, joined}
 use Rattle.gql_http.specs.Events.{Event, opens, feeds, breaks, closes, Connections, all_closed, Does, Behaves}
-use Rattle.gql_http.specs.History.{AcceptedEdits, DataAfter, Holds}
-use Rattle.gql_http.specs.Limits.{limit_in, name_limit_in}
+use Rattle.gql_http.specs.History.{AcceptedEdits, AsksFor, DataAfter, Holds}
+use Rattle.gql_http.specs.Limits.{limit_in}
 use Rattle.gql_http.specs.Order.{Order, Answers, on}
-use Rattle.gql_http.specs.Routes.{report, run, call_of}
+use Rattle.gql_http.specs.Routes.{report, run, call_of, serves_batches, single_call_of}
 use Rattle.gql_http.specs.Service.{Step, Run, Runs}
+
+-- Where batches are not served, as under whole numbers, every request makes the call that it makes
+-- where an edit is of one file or of the data, and every edit that is asked for has one change.
+pub record WithoutBatches : Type 0 where
+  pub of_whole_numbers : serves_batches whole_numbers ≡ false
+  pub calls : (profile : Profile) (method target : List ℕ) → serves_batches profile ≡ false
+      → call_of profile method target ≡ single_call_of profile.limits.name method target
+  pub edits : (profile : Profile) (r : Req) (expected : Option ℕ) (e : Edit)
+      → serves_batches profile ≡ false → AsksFor profile r expected e
+      → (c : Change) × (e ≡ c ∷ [])
 
 -- a request has at most one answer, and leaves at most one state
 abbrev pub OneStep : Type 0
@@ -112,7 +124,7 @@ RunKeepsProfile = (s t : State) (rs : List Req) (answers : List (List ℕ)) → 
 abbrev pub ReportThen : Type 0
 ReportThen = (s u : State) (front rest : List Req) (method target body : List ℕ) (closing : Bool)
     (answers : List (List ℕ))
-    → call_of (name_limit_in s) method target ≡ report
+    → call_of (profile_of s) method target ≡ report
     → Run s (front ++ (request method target body closing ∷ rest)) answers u
     → (before after : List (List ℕ)) × (t : State) × (faults : List Fault) × Run s front before t
     × IsReport t.files faults
@@ -146,7 +158,7 @@ RevisionCounts = (s t : State) (rs : List Req) (answers : List (List ℕ)) → R
 abbrev pub CallThen : Type 0
 CallThen = (s u : State) (front rest : List Req) (method target body : List ℕ) (closing : Bool)
     (answers : List (List ℕ))
-    → call_of (name_limit_in s) method target ≡ run
+    → call_of (profile_of s) method target ≡ run
     → Run s (front ++ (request method target body closing ∷ rest)) answers u
     → (before after : List (List ℕ)) × (t : State) × (said : Said) × (effects : List Effect)
     × Run s front before t × Runs t body said effects

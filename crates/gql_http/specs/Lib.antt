@@ -3,6 +3,9 @@ pub mod RunBodies
 pub mod ReadBodies
 pub mod Answers
 pub mod Routes
+pub mod Batches
+pub mod BatchValues
+pub mod Editing
 pub mod Called
 pub mod Said
 pub mod Service

@@ -14,10 +14,6 @@ body_limit_of profile = min profile.limits.body greatest_body_limit
 abbrev pub limit_in : State → ℕ
 limit_in s = body_limit_of (profile_of s)
 
--- the most bytes of the name of a file in this state
-abbrev pub name_limit_in : State → ℕ
-name_limit_in s = (profile_of s).limits.name
-
 -- whether a framer has this limit, if there is one
 abbrev pub has_limit : ℕ → Option Framing → Bool
 has_limit limit None = true

@@ -3,24 +3,16 @@ use Rattle.std.specs.Prelude.{ℕ, ◌≡◌, List, [], ◌∷◌, true, Option,
 use Rattle.gql_ast.specs.declared.fault.Fault.{Fault}
 use Rattle.gql_http.specs.RunBodies.{Asks, call, stored_only, bad_call}
 use Rattle.gql_registry.specs.Calls.{Answers, CallOutcome, effects_in, text_of}
-use Rattle.gql_registry.specs.Edits.{Edit, Makes}
-use Rattle.gql_registry.specs.Edits as edit
 use Rattle.gql_registry.specs.Report.{IsReport}
-use Rattle.gql_registry.specs.State.{State, with_effects}
+use Rattle.gql_registry.specs.State.{State, profile_of, with_effects}
 use Rattle.gql_registry.specs.declared.refusal.Refusal.{Refusal}
-use Rattle.gql_registry.specs.declared.registry.Edited.{Edited}
 use Rattle.gql_stored.specs.Effects.{Effect}
 use Rattle.serde_json.specs.Data.{Data}
 use Rattle.gql_wire.specs.Head.{is_head}
 use Rattle.gql_wire.specs.Stream.{Req, request, refused as refused_head}
-use Rattle.gql_http.specs.Answers.{Said, answer_bytes, bad_run_body, edit_said, head_said, report_said, run_said, stored_operations_only}
-use Rattle.gql_http.specs.Limits.{name_limit_in}
-use Rattle.gql_http.specs.Routes.{Call, report, put, remove, put_data, run, refused, call_of}
-
--- the answer to an edit, and the state that it leaves, unless an allocation fails
-abbrev pub Edits : State → Option ℕ → Edit → Said → State → Type 0
-Edits s expected e a t = (r : Result Edited Refusal) × (edit_said r ≡ Some a)
-    × Makes s expected e r t
+use Rattle.gql_http.specs.Answers.{Said, answer_bytes, bad_run_body, head_said, report_said, run_said, stored_operations_only}
+use Rattle.gql_http.specs.Editing.{Edits}
+use Rattle.gql_http.specs.Routes.{Call, report, edit, run, refused, call_of}
 
 -- The answer to a run with this body in the state s, and what it adds to the data, unless an
 -- allocation fails: as the registry answers the call that the body asks for. A run that is refused
@@ -36,16 +28,14 @@ pub data Runs (s : State) (body : List ℕ) : Said → List Effect → Type 0 wh
 abbrev pub Calls : State → Call → List ℕ → Said → State → Type 0
 Calls s report body a t = ((faults : List Fault) × IsReport s.files faults
     × (a ≡ report_said s.revision faults)) × (t ≡ s)
-Calls s (put side name expected) body a t = Edits s expected (edit.put side name body) a t
-Calls s (remove side name expected) body a t = Edits s expected (edit.remove side name) a t
-Calls s (put_data expected) body a t = Edits s expected (edit.put_data body) a t
+Calls s (edit kind expected) body a t = Edits s expected kind body a t
 Calls s run body a t = (effects : List Effect) × Runs s body a effects × (t ≡ with_effects s effects)
 Calls s (refused said) body a t = (a ≡ said) × (t ≡ s)
 
 -- a request in the state s is answered with these bytes, and leaves the state t
 abbrev pub Step : State → Req → List ℕ → State → Type 0
 Step s (request method target body closing) bytes t =
-    (a : Said) × Calls s (call_of (name_limit_in s) method target) body a t
+    (a : Said) × Calls s (call_of (profile_of s) method target) body a t
     × (bytes ≡ answer_bytes closing (is_head method) a)
 Step s (refused_head refusal bodiless) bytes t =
     (bytes ≡ answer_bytes true bodiless (head_said refusal)) × (t ≡ s)

@@ -1,5 +1,11 @@
 //! Laws of the service and its hub. The functions do nothing: what they ensure is the law.
-ghost use Rattle.gql_http.specs.Laws.{AnyPieces, CallThen, DataInOrder, DataPresent, FilesPresent, InOrder, OneDeed, OneOrder, OneRun, OneStep, ReportThen, RevisionCounts, RunKeepsProfile, SomeOrder, TwoParts};
+ghost use Rattle.gql_http.specs.Laws.{AnyPieces, CallThen, DataInOrder, DataPresent, FilesPresent, InOrder, OneDeed, OneOrder, OneRun, OneStep, ReportThen, RevisionCounts, RunKeepsProfile, SomeOrder, TwoParts, WithoutBatches};
+
+/// Where batches are not served, as under whole numbers, every request makes the call that it makes
+/// where an edit is of one file or of the data, and every edit has one change.
+pub fn without_batches()
+    ensures { WithoutBatches }
+{}
 
 /// A request has at most one answer, and leaves at most one state.
 pub fn one_step()
@@ -69,6 +75,7 @@ pub fn two_parts()
 pub fn files_present()
     ensures { FilesPresent }
 {
+    gql_registry::laws::one_load();
     gql_registry::laws::holds_after();
 }
 
@@ -87,7 +94,10 @@ pub fn report_then()
 /// it, one after the other.
 pub fn data_present()
     ensures { DataPresent }
-{}
+{
+    gql_registry::laws::one_load();
+    gql_registry::laws::data_left();
+}
 
 /// Whatever the events, the data is what accepted edits of the data and served mutations have made
 /// of it, one after the other, in the order in which the requests are complete.
@@ -102,7 +112,9 @@ pub fn data_in_order()
 /// none.
 pub fn revision_counts()
     ensures { RevisionCounts }
-{}
+{
+    gql_registry::laws::one_load();
+}
 
 /// A request to run an operation is answered as the registry answers it on the files and the data
 /// that are present after the requests before it, and those after it find the data with what it

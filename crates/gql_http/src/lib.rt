@@ -2,6 +2,8 @@
 #![tactic(auto)]
 
 mod answer;
+mod batch;
+mod editing;
 mod hub;
 pub mod laws;
 mod parts;
@@ -15,6 +17,7 @@ mod route;
 mod run_body;
 mod serve;
 mod service;
+mod twice;
 mod write;
 mod write_answer;
 

@@ -3,7 +3,7 @@ ghost use Rattle.std.specs.Prelude.{◌≡◌, ◌++◌, OnOk, IfOk, string_byte
 ghost use Rattle.gql_http.specs.Json.{side_text, place_text, owner_text, places_text};
 
 use crate::write::{write_bytes, write_number, write_string};
-use gql_ast::{FilePlace, FileSide};
+use gql_ast::{FileName, FilePlace, FileSide};
 use std::alloc::{AllocError, Global};
 
 fn side_name(side: FileSide) -> &'static str
@@ -15,11 +15,12 @@ fn side_name(side: FileSide) -> &'static str
     }
 }
 
-fn file_text(alloc: Global, place: &FilePlace) -> Result<String, AllocError>
-    ensures { IfOk result (λ text. string_bytes text ≡ side_text place.now.side ++ place.now.file) }
+/// The name of a file with its side before it.
+pub fn file_text(alloc: Global, side: FileSide, name: &FileName) -> Result<String, AllocError>
+    ensures { IfOk result (λ text. string_bytes text ≡ side_text side ++ name.now) }
 {
-    let mut text = String::from_str(alloc, side_name(place.side))?;
-    text.push_str(place.file.as_str())?;
+    let mut text = String::from_str(alloc, side_name(side))?;
+    text.push_str(name.as_str())?;
     Ok(text)
 }
 
@@ -28,7 +29,7 @@ fn file_text(alloc: Global, place: &FilePlace) -> Result<String, AllocError>
 fn write_place(alloc: Global, out: &mut Vec<u8>, place: &FilePlace) -> Result<(), AllocError>
     ensures { OnOk result (out.new.items ≡ out.old.items ++ place_text place.now) }
 {
-    let file = file_text(alloc, place)?;
+    let file = file_text(alloc, place.side, &place.file)?;
     write_bytes(out, b"{\"file\":")?;
     write_string(alloc, out, file.as_str())?;
     write_bytes(out, b",\"line\":")?;

@@ -1,12 +1,14 @@
 //! The answers to refusals.
 ghost use Rattle.std.specs.Prelude.{◌≡◌, IfOk, Some, IsTrue};
 ghost use Rattle.gql_wire.specs.Answer.{is_answered};
-ghost use Rattle.gql_http.specs.Answers.{refusal_said, head_said, head_status, head_message, said, error_text};
-ghost use Rattle.gql_http.specs.Called.{body_said, route_said};
+ghost use Rattle.std.specs.Option.{option_copied};
+ghost use Rattle.gql_http.specs.Answers.{error_text, head_message, head_said, head_status, refusal_said, refused_text, said};
+ghost use Rattle.gql_http.specs.Called.{batch_said, body_said, route_said};
 ghost use Rattle.gql_http.specs.Said.{answer_said};
 
 use crate::answer::Answer;
-use crate::refusal_body::{error_body, faulty_body, stale_body, syntax_body};
+use crate::batch::BatchFault;
+use crate::refusal_body::{error_body, faulty_body, refused_body, stale_body, syntax_body};
 use crate::route::RouteRefusal;
 use crate::run_body::RunBodyFault;
 use gql_registry::Refusal;
@@ -78,6 +80,22 @@ fn simple(
     })
 }
 
+/// An answer that names a file, if there is one.
+fn naming(
+    alloc: Global,
+    status: StatusCode,
+    message: &str,
+    number: u64,
+    file: Option<&str>,
+) -> Result<Answer, AllocError>
+    requires { IsTrue (is_answered status) }
+    ensures { IfOk result (λ a. answer_said a
+        ≡ said status (refused_text (option_copied file.entry) message.now number)) }
+{
+    let body = refused_body(alloc, message, number, file)?;
+    Ok(with_body(status, body))
+}
+
 fn with_body(status: StatusCode, body: Vec<u8>) -> Answer
     requires { IsTrue (is_answered status) }
     ensures { answer_said result ≡ said status body.items }
@@ -102,56 +120,52 @@ pub fn body_answer(alloc: Global, fault: RunBodyFault) -> Result<Answer, AllocEr
     }
 }
 
-/// The answer to a refusal of the registry. There is none if an allocation failed.
-pub fn refusal_answer(alloc: Global, refusal: &Refusal) -> Result<Answer, AllocError>
-    ensures { IfOk result (λ a. refusal_said refusal.now ≡ Some (answer_said a)) }
+/// The answer to an edit whose body is no batch. There is none if an allocation failed.
+pub fn batch_answer(alloc: Global, fault: BatchFault) -> Result<Answer, AllocError>
+    ensures { IfOk result (λ a. batch_said fault ≡ Some (answer_said a)) }
+{
+    let number = u64::from(fault.number());
+    match fault {
+        BatchFault::BadBatch => simple(alloc, StatusCode::BAD_REQUEST, "bad batch", number),
+        BatchFault::Memory => Err(AllocError),
+    }
+}
+
+/// The answer to a refusal of the registry, which names the file if it is one of a change. There is
+/// none if an allocation failed.
+pub fn refusal_answer(
+    alloc: Global,
+    refusal: &Refusal,
+    file: Option<&str>,
+) -> Result<Answer, AllocError>
+    ensures { IfOk result (λ a. refusal_said (option_copied file.entry) refusal.now
+        ≡ Some (answer_said a)) }
 {
     let number = u64::from(refusal.number());
+    let bad = StatusCode::BAD_REQUEST;
+    let large = StatusCode::PAYLOAD_TOO_LARGE;
+    let missing = StatusCode::NOT_FOUND;
+    let conflict = StatusCode::CONFLICT;
+    let not_run = StatusCode::UNPROCESSABLE_ENTITY;
     match refusal {
         Refusal::Syntax {
             number: of_syntax,
             place,
-        } => {
-            let body = syntax_body(alloc, *of_syntax, *place)?;
-            Ok(with_body(StatusCode::BAD_REQUEST, body))
-        }
-        Refusal::NotText => simple(alloc, StatusCode::BAD_REQUEST, "body is not UTF-8", number),
-        Refusal::TooLong => simple(
-            alloc,
-            StatusCode::PAYLOAD_TOO_LARGE,
-            "file is too long",
-            number,
-        ),
-        Refusal::NoFile => simple(alloc, StatusCode::NOT_FOUND, "no such file", number),
-        Refusal::FilesFull => simple(alloc, StatusCode::CONFLICT, "too many files", number),
-        Refusal::Stale { revision } => {
-            let body = stale_body(alloc, *revision)?;
-            Ok(with_body(StatusCode::CONFLICT, body))
-        }
-        Refusal::BadData => simple(
-            alloc,
-            StatusCode::BAD_REQUEST,
-            "data is not accepted",
-            number,
-        ),
-        Refusal::NoOperation => simple(alloc, StatusCode::NOT_FOUND, "no such operation", number),
+        } => Ok(with_body(bad, syntax_body(alloc, *of_syntax, *place, file)?)),
+        Refusal::NotText => naming(alloc, bad, "body is not UTF-8", number, file),
+        Refusal::TooLong => naming(alloc, large, "file is too long", number, file),
+        Refusal::NoFile => naming(alloc, missing, "no such file", number, file),
+        Refusal::FilesFull => naming(alloc, conflict, "too many files", number, file),
+        Refusal::Stale { revision } => Ok(with_body(conflict, stale_body(alloc, *revision)?)),
+        Refusal::BadData => naming(alloc, bad, "data is not accepted", number, file),
+        Refusal::NoOperation => simple(alloc, missing, "no such operation", number),
         Refusal::Faulty { faults } => {
             let body = faulty_body(alloc, faults.as_slice())?;
-            Ok(with_body(StatusCode::UNPROCESSABLE_ENTITY, body))
+            Ok(with_body(not_run, body))
         }
-        Refusal::TooLarge => simple(
-            alloc,
-            StatusCode::UNPROCESSABLE_ENTITY,
-            "answer is too large",
-            number,
-        ),
-        Refusal::NotRun => simple(
-            alloc,
-            StatusCode::UNPROCESSABLE_ENTITY,
-            "subscriptions are not run",
-            number,
-        ),
+        Refusal::TooLarge => simple(alloc, not_run, "answer is too large", number),
+        Refusal::NotRun => simple(alloc, not_run, "subscriptions are not run", number),
         Refusal::Memory => Err(AllocError),
-        Refusal::Spent => simple(alloc, StatusCode::CONFLICT, "revisions are spent", number),
+        Refusal::Spent => simple(alloc, conflict, "revisions are spent", number),
     }
 }

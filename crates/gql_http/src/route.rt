@@ -2,11 +2,11 @@
 ghost use Rattle.std.specs.Prelude.{◌≡◌, IfOk, Some, None, drop, bytes_eq, codes, if◌then◌else◌, nat_eq};
 ghost use Rattle.std.specs.List.{starts_with};
 ghost use Rattle.gql_ast.specs.FileNames.{is_file_name};
-ghost use Rattle.gql_http.specs.Routes.{call_of, call_on, resource_of, file_of, file_resource, without_query, putting, putting_data, removing};
-ghost use Rattle.gql_http.specs.Called.{call_said, resource_said};
+ghost use Rattle.gql_http.specs.Routes.{call_of, call_on, editing, file_of, file_resource, resource_of, serves_batches, single_resource_of, without_query};
+ghost use Rattle.gql_http.specs.Called.{call_said, kind_said, resource_said};
 
 use crate::query::{Query, path_of, query_of};
-use gql_ast::{FileName, FileSide};
+use gql_ast::{FileName, FileSide, Profile};
 use gql_wire::Allow;
 use std::alloc::{AllocError, Global};
 use std::str;
@@ -43,13 +43,24 @@ impl RouteRefusal {
     }
 }
 
+/// What an edit is of. The body has the rest.
+#[derive(Drop)]
+pub enum EditKind {
+    /// A file is put on a side.
+    Put(FileSide, FileName),
+    /// The file of a name is removed from a side.
+    Remove(FileSide, FileName),
+    /// Data are put.
+    PutData,
+    /// A list of changes is made.
+    Batch,
+}
+
 /// A call, or why the request is not one. An edit may expect a revision.
 #[derive(Drop)]
 pub enum Call {
     Report,
-    Put(FileSide, FileName, Option<u64>),
-    Remove(FileSide, FileName, Option<u64>),
-    PutData(Option<u64>),
+    Edit(EditKind, Option<u64>),
     Run,
     Refused(RouteRefusal),
 }
@@ -61,6 +72,7 @@ enum Resource {
     Report,
     Data,
     Run,
+    Edits,
     File(FileSide, FileName),
 }
 
@@ -104,8 +116,9 @@ fn file_of(alloc: Global, path: &[u8], most: usize) -> Result<Resource, AllocErr
     }
 }
 
-fn resource_of(alloc: Global, path: &[u8], most: usize) -> Result<Resource, AllocError>
-    ensures { IfOk result (λ found. resource_said found ≡ resource_of most path.now) }
+/// What a path names, where an edit is of one file or of the data.
+fn single_resource_of(alloc: Global, path: &[u8], most: usize) -> Result<Resource, AllocError>
+    ensures { IfOk result (λ found. resource_said found ≡ single_resource_of most path.now) }
 {
     if path == b"/report".as_slice() {
         Ok(Resource::Report)
@@ -115,6 +128,23 @@ fn resource_of(alloc: Global, path: &[u8], most: usize) -> Result<Resource, Allo
         Ok(Resource::Run)
     } else {
         file_of(alloc, path, most)
+    }
+}
+
+/// Whether batches are served under a profile.
+fn serves_batches(profile: Profile) -> bool
+    ensures { result ≡ serves_batches profile }
+{
+    profile.floats
+}
+
+fn resource_of(alloc: Global, path: &[u8], profile: Profile) -> Result<Resource, AllocError>
+    ensures { IfOk result (λ found. resource_said found ≡ resource_of profile path.now) }
+{
+    if serves_batches(profile) && path == b"/edits".as_slice() {
+        Ok(Resource::Edits)
+    } else {
+        single_resource_of(alloc, path, profile.limits.name)
     }
 }
 
@@ -128,35 +158,13 @@ fn without_query(query: Query, served: Call) -> Call
     }
 }
 
-/// The call that puts a file.
-fn putting(query: Query, side: FileSide, name: FileName) -> Call
-    ensures { call_said result ≡ putting query side name }
+/// The call that makes an edit of this kind.
+fn editing(query: Query, kind: EditKind) -> Call
+    ensures { call_said result ≡ editing query (kind_said kind) }
 {
     match query {
-        Query::Absent => Call::Put(side, name, None),
-        Query::Revision(revision) => Call::Put(side, name, Some(revision)),
-        Query::Other => Call::Refused(RouteRefusal::BadQuery),
-    }
-}
-
-/// The call that removes a file.
-fn removing(query: Query, side: FileSide, name: FileName) -> Call
-    ensures { call_said result ≡ removing query side name }
-{
-    match query {
-        Query::Absent => Call::Remove(side, name, None),
-        Query::Revision(revision) => Call::Remove(side, name, Some(revision)),
-        Query::Other => Call::Refused(RouteRefusal::BadQuery),
-    }
-}
-
-/// The call that puts the data.
-fn putting_data(query: Query) -> Call
-    ensures { call_said result ≡ putting_data query }
-{
-    match query {
-        Query::Absent => Call::PutData(None),
-        Query::Revision(revision) => Call::PutData(Some(revision)),
+        Query::Absent => Call::Edit(kind, None),
+        Query::Revision(revision) => Call::Edit(kind, Some(revision)),
         Query::Other => Call::Refused(RouteRefusal::BadQuery),
     }
 }
@@ -168,23 +176,31 @@ fn call_on(resource: Resource, method: &[u8], query: Query) -> Call
         Resource::Nothing => Call::Refused(RouteRefusal::NoRoute),
         Resource::Report if method == b"GET".as_slice() => without_query(query, Call::Report),
         Resource::Report => Call::Refused(RouteRefusal::NotAllowed(Allow::Get)),
-        Resource::Data if method == b"PUT".as_slice() => putting_data(query),
+        Resource::Data if method == b"PUT".as_slice() => editing(query, EditKind::PutData),
         Resource::Data => Call::Refused(RouteRefusal::NotAllowed(Allow::Put)),
         Resource::Run if method == b"POST".as_slice() => without_query(query, Call::Run),
         Resource::Run => Call::Refused(RouteRefusal::NotAllowed(Allow::Post)),
-        Resource::File(side, name) if method == b"PUT".as_slice() => { putting(query, side, name) }
+        Resource::Edits if method == b"POST".as_slice() => editing(query, EditKind::Batch),
+        Resource::Edits => Call::Refused(RouteRefusal::NotAllowed(Allow::Post)),
+        Resource::File(side, name) if method == b"PUT".as_slice() => {
+            editing(query, EditKind::Put(side, name))
+        }
         Resource::File(side, name) if method == b"DELETE".as_slice() => {
-            removing(query, side, name)
+            editing(query, EditKind::Remove(side, name))
         }
         Resource::File(_, _) => Call::Refused(RouteRefusal::NotAllowed(Allow::PutDelete)),
     }
 }
 
-/// The call that a request's method and target make, where the name of a file has at most so many
-/// bytes.
-pub fn call_of(alloc: Global, method: &[u8], target: &[u8], most: usize) -> Result<Call, AllocError>
-    ensures { IfOk result (λ call. call_said call ≡ call_of most method.now target.now) }
+/// The call that a request's method and target make under a profile.
+pub fn call_of(
+    alloc: Global,
+    method: &[u8],
+    target: &[u8],
+    profile: Profile,
+) -> Result<Call, AllocError>
+    ensures { IfOk result (λ call. call_said call ≡ call_of profile method.now target.now) }
 {
-    let resource = resource_of(alloc, path_of(target), most)?;
+    let resource = resource_of(alloc, path_of(target), profile)?;
     Ok(call_on(resource, method, query_of(target)))
 }

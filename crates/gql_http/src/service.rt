@@ -1,15 +1,13 @@
 //! One request after the other, made on the registry.
-ghost use Rattle.std.specs.Prelude.{◌≡◌, ◌++◌, ◌+◌, ◌≤◌, OnOk, OnErr, IfOk, IsErr, List, [], ℕ, Some, vec_len, vec_capacity};
+ghost use Rattle.std.specs.Prelude.{◌≡◌, ◌++◌, OnOk, OnErr, IfOk, List, ℕ, Some};
 ghost use Rattle.gql_ast.specs.declared.fault.Fault.{Fault};
 ghost use Rattle.gql_registry.specs.Calls.{Answers, CallResult, effects_in, text_of};
-ghost use Rattle.gql_registry.specs.Edits as edit;
-ghost use Rattle.gql_registry.specs.Edits.{Makes};
 ghost use Rattle.gql_registry.specs.Report.{IsReport};
 ghost use Rattle.gql_registry.specs.State.{state_of, with_effects};
 ghost use Rattle.serde_json.specs.View.{view};
 ghost use Rattle.std.specs.Option.{option_copied};
 ghost use Rattle.gql_wire.specs.Stream.{req};
-ghost use Rattle.gql_http.specs.Answers.{Said, edit_said, report_said, run_said};
+ghost use Rattle.gql_http.specs.Answers.{Said, report_said, run_said};
 ghost use Rattle.gql_http.specs.Called.{call_said};
 ghost use Rattle.gql_http.specs.Said.{answer_said, ended_bytes};
 ghost use Rattle.gql_http.specs.Routes as routes;
@@ -17,14 +15,13 @@ ghost use Rattle.gql_wire.specs.Head.{is_head};
 ghost use Rattle.gql_http.specs.Service.{Step, Calls};
 
 use crate::answer::{Answer, Ending};
+use crate::editing::answer_edit;
 use crate::refusal_answer::{body_answer, head_answer, refusal_answer, route_answer};
 use crate::report_body::report_body;
 use crate::route::{Call, call_of};
 use crate::run_body::run_body_in;
-use crate::write_answer::{EDIT_ROOM, write_answer, write_edited, write_reply};
-use gql_ast::{FileName, FileSide};
-use gql_registry::{Edited, Refusal, Registry};
-use gql_verdict::Meter;
+use crate::write_answer::{write_answer, write_reply};
+use gql_registry::Registry;
 use gql_wire::Framed;
 use http::StatusCode;
 use serde_json::Value;
@@ -41,128 +38,6 @@ fn report_answer(alloc: Global, registry: &Registry) -> Result<Answer, AllocErro
         allow: None,
         body: report_body(alloc, registry.revision(), faults.as_slice())?,
     })
-}
-
-/// Writes the answer to an edit. There is room for that to an accepted one.
-fn write_edit(
-    alloc: Global,
-    out: &mut Vec<u8>,
-    edited: Result<Edited, Refusal>,
-    ending: Ending,
-) -> Result<(), AllocError>
-    requires { vec_len out.old + EDIT_ROOM ≤ vec_capacity out.old }
-    ensures ok { OnOk result ((a : Said) × (edit_said edited ≡ Some a)
-        × (out.new.items ≡ out.old.items ++ ended_bytes ending a)) }
-    ensures err { OnErr result (IsErr edited × (out.new.items ≡ out.old.items)) }
-{
-    match edited {
-        Ok(edited) => {
-            write_edited(out, edited, ending);
-            Ok(())
-        }
-        Err(refusal) => write_answer(out, &refusal_answer(alloc, &refusal)?, ending),
-    }
-}
-
-/// Puts a file on a side.
-fn put(
-    alloc: Global,
-    registry: &mut Registry,
-    side: FileSide,
-    name: FileName,
-    body: &[u8],
-    expected: Option<u64>,
-) -> Result<Edited, Refusal>
-    ensures { Makes (state_of registry.old) expected (edit.put side name body.now) result
-        (state_of registry.new) }
-{
-    let mut meter = Meter::new(alloc);
-    match side {
-        FileSide::Schema => registry.put_schema(name, body, expected, &mut meter),
-        FileSide::Documents => registry.put_document(name, body, expected, &mut meter),
-    }
-}
-
-/// Removes a file from a side.
-fn remove(
-    alloc: Global,
-    registry: &mut Registry,
-    side: FileSide,
-    name: FileName,
-    expected: Option<u64>,
-) -> Result<Edited, Refusal>
-    ensures { Makes (state_of registry.old) expected (edit.remove side name) result
-        (state_of registry.new) }
-{
-    let mut meter = Meter::new(alloc);
-    match side {
-        FileSide::Schema => registry.remove_schema(name, expected, &mut meter),
-        FileSide::Documents => registry.remove_document(name, expected, &mut meter),
-    }
-}
-
-fn answer_put(
-    alloc: Global,
-    registry: &mut Registry,
-    out: &mut Vec<u8>,
-    side: FileSide,
-    name: FileName,
-    expected: Option<u64>,
-    body: &[u8],
-    ending: Ending,
-) -> Result<(), AllocError>
-    ensures ok { OnOk result ((a : Said)
-        × Calls (state_of registry.old) (routes.put side name expected) body.now a
-        (state_of registry.new)
-        × (out.new.items ≡ out.old.items ++ ended_bytes ending a)) }
-    ensures err { OnErr result ((state_of registry.new ≡ state_of registry.old)
-        × (out.new.items ≡ out.old.items)) }
-{
-    out.reserve(EDIT_ROOM)?;
-    let edited = put(alloc, registry, side, name, body, expected);
-    write_edit(alloc, out, edited, ending)
-}
-
-fn answer_removal(
-    alloc: Global,
-    registry: &mut Registry,
-    out: &mut Vec<u8>,
-    side: FileSide,
-    name: FileName,
-    expected: Option<u64>,
-    ending: Ending,
-) -> Result<(), AllocError>
-    ensures ok { OnOk result ((a : Said)
-        × Calls (state_of registry.old) (routes.remove side name expected) [] a
-        (state_of registry.new)
-        × (out.new.items ≡ out.old.items ++ ended_bytes ending a)) }
-    ensures err { OnErr result ((state_of registry.new ≡ state_of registry.old)
-        × (out.new.items ≡ out.old.items)) }
-{
-    out.reserve(EDIT_ROOM)?;
-    let edited = remove(alloc, registry, side, name, expected);
-    write_edit(alloc, out, edited, ending)
-}
-
-fn answer_data(
-    alloc: Global,
-    registry: &mut Registry,
-    out: &mut Vec<u8>,
-    expected: Option<u64>,
-    body: &[u8],
-    ending: Ending,
-) -> Result<(), AllocError>
-    ensures ok { OnOk result ((a : Said)
-        × Calls (state_of registry.old) (routes.put_data expected) body.now a
-        (state_of registry.new)
-        × (out.new.items ≡ out.old.items ++ ended_bytes ending a)) }
-    ensures err { OnErr result ((state_of registry.new ≡ state_of registry.old)
-        × (out.new.items ≡ out.old.items)) }
-{
-    out.reserve(EDIT_ROOM)?;
-    let mut meter = Meter::new(alloc);
-    let edited = registry.put_data(body, expected, &mut meter);
-    write_edit(alloc, out, edited, ending)
 }
 
 /// Makes a call of a stored operation and writes its reply. The reply is written before the call
@@ -190,7 +65,7 @@ fn answer_call(
             registry.commit(prepared);
             Ok(())
         }
-        Err(refusal) => write_answer(out, &refusal_answer(alloc, &refusal)?, ending),
+        Err(refusal) => write_answer(out, &refusal_answer(alloc, &refusal, None)?, ending),
     }
 }
 
@@ -232,13 +107,9 @@ fn make_call(
 {
     match call {
         Call::Report => write_answer(out, &report_answer(alloc, registry)?, ending),
-        Call::Put(side, name, expected) => {
-            answer_put(alloc, registry, out, side, name, expected, body, ending)
+        Call::Edit(kind, expected) => {
+            answer_edit(alloc, registry, out, kind, expected, body, ending)
         }
-        Call::Remove(side, name, expected) => {
-            answer_removal(alloc, registry, out, side, name, expected, ending)
-        }
-        Call::PutData(expected) => answer_data(alloc, registry, out, expected, body, ending),
         Call::Run => answer_run(alloc, registry, out, body, ending),
         Call::Refused(refusal) => write_answer(out, &route_answer(alloc, refusal)?, ending),
     }
@@ -269,8 +140,8 @@ pub fn step(
                 closing: *closing,
                 bodiless: is_head(method.as_slice()),
             };
-            let most = registry.profile().limits.name;
-            let call = call_of(alloc, method.as_slice(), target.as_slice(), most)?;
+            let profile = registry.profile();
+            let call = call_of(alloc, method.as_slice(), target.as_slice(), profile)?;
             make_call(alloc, registry, out, call, body.as_slice(), ending)
         }
         Framed::Refused { number, bodiless } => {

@@ -1,5 +1,5 @@
 //! Answers, written.
-ghost use Rattle.std.specs.Prelude.{◌≡◌, ◌++◌, ◌+◌, ◌≤◌, ◌<◌, ◌^◌, OnOk, OnErr, vec_len, vec_capacity, length};
+ghost use Rattle.std.specs.Prelude.{◌≡◌, ◌++◌, ◌<◌, ◌^◌, OnOk, OnErr, length};
 ghost use Rattle.gql_http.specs.Said.{answer_said, ended_bytes};
 ghost use Rattle.gql_http.specs.Answers.{said};
 ghost use Rattle.gql_http.specs.Json.{edited_text};
@@ -10,9 +10,6 @@ use gql_registry::Edited;
 use http::StatusCode;
 use itoa::Buffer;
 use std::alloc::AllocError;
-
-/// The room that the answer to an accepted edit needs at most.
-pub const EDIT_ROOM: usize = 224;
 
 /// Writes an answer, or nothing if an allocation fails.
 pub fn write_answer(out: &mut Vec<u8>, answer: &Answer, ending: Ending) -> Result<(), AllocError>
@@ -54,14 +51,11 @@ fn edited_body(edited: Edited) -> ArrayString<64>
     body
 }
 
-/// Writes the answer to an accepted edit, for which there is room.
-pub fn write_edited(out: &mut Vec<u8>, edited: Edited, ending: Ending)
-    requires { vec_len out.old + EDIT_ROOM ≤ vec_capacity out.old }
-    ensures { out.new.items ≡ out.old.items ++ ended_bytes ending
-        (said 200 (edited_text edited.revision edited.faults)) }
+/// Writes the answer to an accepted edit, or nothing if an allocation fails.
+pub fn write_edited(out: &mut Vec<u8>, edited: Edited, ending: Ending) -> Result<(), AllocError>
+    ensures ok { OnOk result (out.new.items ≡ out.old.items ++ ended_bytes ending
+        (said 200 (edited_text edited.revision edited.faults))) }
+    ensures err { OnErr result (out.new.items ≡ out.old.items) }
 {
-    let body = edited_body(edited);
-    let Ok(()) = write_parts(out, StatusCode::OK, None, body.as_str().as_bytes(), ending) else {
-        unreachable!();
-    };
+    write_reply(out, edited_body(edited).as_str().as_bytes(), ending)
 }

@@ -1,5 +1,5 @@
 -- The operations that are kept: those of files one after the other, and after an edit of one file.
-use Rattle.std.proofs.Common.{◌≡◌, ◌⊎◌, ◌+◌, inl, inr, ℕ, zero, suc, ◌≤◌, List, [], ◌∷◌, ◌++◌, append_assoc, append-nil, flat_map, take, length, ◌<◌, get_or, cond, refl, ap, sym, subst, ◌∙◌, Contains, Option, Some, None, arith}
+use Rattle.std.proofs.Common.{◌≡◌, ◌⊎◌, ◌+◌, inl, inr, ℕ, zero, suc, ◌≤◌, List, [], ◌∷◌, ◌++◌, append_assoc, append-nil, take, length, ◌<◌, get_or, cond, refl, ap, sym, subst, ◌∙◌, Contains, Option, Some, None, arith}
 use Rattle.std.specs.Prelude.{◌↔◌}
 use Rattle.std.specs.List.{AllByRecursion}
 use Rattle.std.specs.List.Sorted.{IsStrictlySortedBy}
@@ -20,7 +20,7 @@ use Rattle.gql_ast.specs.declared.definition.Tree.TheVariants as tree
 use Rattle.gql_chunks.specs.Edits.{IsEdited, IsFree}
 use Rattle.gql_chunks.specs.Lists.{AreInOrder}
 use Rattle.gql_chunks.proofs.Members.{pairs_none}
-use Rattle.gql_facts.specs.ListMembers.{Contains-cases, Contains-here, Contains-nil, Contains-there}
+use Rattle.gql_facts.specs.ListMembers.{Contains-cases, Contains-here, Contains-nil}
 use Rattle.gql_registry.specs.Indexed.{AreOperationsIn, HaveSame, IsIndexOf, IsWith, kept_as, kept_by, kept_from, kept_in, kept_operations}
 use Rattle.gql_registry.specs.OperationLaws.{operation_total}
 use Rattle.gql_registry.specs.OperationOrders.{file_order, operation_order, title_order}

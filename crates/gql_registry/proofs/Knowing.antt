@@ -1,5 +1,5 @@
 -- What is known before an edit, from the verdicts that are kept.
-use Rattle.std.proofs.Common.{◌≡◌, List, [], None, refl, sym, subst, Contains}
+use Rattle.std.proofs.Common.{◌≡◌, List, [], refl, sym, subst, Contains}
 use Rattle.gql_ast.specs.declared.definition.Definition.{Definition}
 use Rattle.gql_ast.specs.declared.files.Files.{Files}
 use Rattle.gql_ast.specs.declared.profile.Profile.{Profile}
@@ -8,7 +8,8 @@ use Rattle.gql_facts.specs.ListMembers.{Contains-nil}
 use Rattle.gql_facts.specs.Worlds.{Facts}
 use Rattle.gql_pairs.specs.Groups.{KeptGroup}
 use Rattle.gql_pairs.specs.Tables.{AllHold}
-use Rattle.gql_registry.specs.Keeping.{ArePairsBefore, ArePairsOf, IsKept, IsKnownBefore, IsShelfOf}
+use Rattle.gql_registry.specs.Keeping.{ArePairsBefore, ArePairsOf, IsKept, IsKnownBefore, IsKnownOf, IsShelfOf}
+use Rattle.gql_registry.specs.declared.report.Known.{Known}
 use Rattle.gql_verdict.specs.DocumentEdits.{ChangesOnly}
 use Rattle.gql_verdict.specs.FileOrder.{AreFilesPlaced}
 use Rattle.gql_verdict.specs.Shelves.{Shelved, nothing_shelved}
@@ -42,10 +43,14 @@ pub no_pairs : (facts : Facts) → AllHold facts []
 no_pairs facts n m k (group, there, is) = absurd (Contains-nil group there)
 
 -- without files nothing is to be kept
-pub none_kept : (profile : Profile) (shelf : Shelved) → shelf ≡ nothing_shelved → IsKept (record { profile = profile; schema = []; documents = [] }) None shelf
-none_kept profile shelf is = rw is (record {
+pub none_current : (profile : Profile) (shelf : Shelved) → shelf ≡ nothing_shelved → IsShelfOf (record { profile = profile; schema = []; documents = [] }) shelf.verdicts
+none_current profile shelf is = rw is (record { each = refl; holds = λ v h. absurd (Contains-nil v h); keys = λ v h. absurd (Contains-nil v h) })
+
+pub none_kept : (profile : Profile) (known : Known) (shelf : Shelved) → shelf ≡ nothing_shelved → IsKnownOf (record { profile = profile; schema = []; documents = [] }) known
+    → IsKept (record { profile = profile; schema = []; documents = [] }) known shelf
+none_kept profile known shelf is known_of = record {
   placed = λ file h. absurd (Contains-nil file h);
-  known = tt;
-  current = record { each = refl; holds = λ v h. absurd (Contains-nil v h); keys = λ v h. absurd (Contains-nil v h) };
-  pairs = no_pairs (fact_of (record { profile = profile; schema = []; documents = [] }));
-})
+  known_of = known_of;
+  current = none_current profile shelf is;
+  pairs = rw is (no_pairs (fact_of (record { profile = profile; schema = []; documents = [] })));
+}

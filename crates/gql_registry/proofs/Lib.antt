@@ -15,6 +15,10 @@ pub mod PlacedFiles
 pub mod PlannedFiles
 pub mod Reports
 pub mod Working
+pub mod InTurn
+pub mod Answered
+pub mod Plans
+pub mod DataLeft
 pub mod SameSchema
 pub mod SameFragments
 pub mod SchemaTouched

@@ -1,5 +1,5 @@
 -- The names of operations that are kept: which are found, and whether there are some.
-use Rattle.std.proofs.Common.{◌≡◌, ◌⊎◌, inl, inr, ℕ, List, [], ◌∷◌, ◌++◌, Bool, true, false, cond, find, flat_map, refl, ap, sym, subst, ◌∙◌, Contains, Option, Some, None, IsTrue}
+use Rattle.std.proofs.Common.{◌≡◌, inl, inr, ℕ, List, [], ◌∷◌, ◌++◌, Bool, true, false, cond, find, refl, ap, sym, subst, ◌∙◌, Contains, Option, Some, None, IsTrue}
 use Rattle.std.specs.Prelude.{◌↔◌, is_some, not}
 use Rattle.std.specs.Borrow.{Bor}
 use Rattle.std.specs.List.{slice_get}

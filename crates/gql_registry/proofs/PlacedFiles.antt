@@ -1,5 +1,5 @@
 -- The definitions of document files stand at rising places, after each edit too.
-use Rattle.std.proofs.Common.{◌≡◌, inl, inr, ℕ, List, [], ◌∷◌, Bool, true, false, refl, sym, ap, subst, ◌∙◌, IfSome}
+use Rattle.std.proofs.Common.{◌≡◌, inl, inr, ℕ, List, [], ◌∷◌, Bool, true, false, refl, sym, ap, subst, ◌∙◌}
 use Rattle.std.specs.Ordering.{is_eq}
 use Rattle.std.specs.declared.cmp.Ordering.{Ordering}
 use Rattle.std.specs.declared.cmp.Ordering.TheVariants.{Less, Equal, Greater}
@@ -72,8 +72,8 @@ plan_of : (before after : Files) (c : EditPlan) → AreFilesPlaced after.documen
 plan_of before after c placed to = record {
   placed = subst (λ (f : Files). AreFilesPlaced f.documents) (sym to.files) placed;
   touched = subst (λ (f : Files). ChangesOnly c.touched before f) (sym to.files) to.touched;
-  schema = subst (λ (f : Files). IfSome c.schema (IsSideOf f)) (sym to.files) to.schema;
-  index = subst (λ (f : Files). IfSome c.index (IsIndexOf f)) (sym to.files) to.index;
+  schema = subst (λ (f : Files). IsSideOf f c.schema) (sym to.files) to.schema;
+  index = subst (λ (f : Files). IsIndexOf f c.index) (sym to.files) to.index;
   names = λ keeps. subst (λ (f : Files). KeepsNamesSound before f) (sym to.files) (to.names keeps);
 }
 

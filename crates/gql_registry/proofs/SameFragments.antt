@@ -1,6 +1,5 @@
 -- What an edit of one file keeps of the index of the document files.
-use Rattle.std.proofs.Common.{◌≡◌, ◌∙◌, ◌++◌, ℕ, Bool, List, [], ◌∷◌, Option, Some, None, IsTrue, refl, ap, sym, subst}
-use Rattle.std.specs.Prelude.{IfSome}
+use Rattle.std.proofs.Common.{◌≡◌, ◌∙◌, ◌++◌, ℕ, List, [], ◌∷◌, Option, Some, None, refl, ap, sym, subst}
 use Rattle.std.specs.Map.{keys_of}
 use Rattle.std.specs.List.Sorted.{IsStrictlySortedBy}
 use Rattle.std.specs.declared.cmp.Ordering.{Ordering}
@@ -11,11 +10,11 @@ use Rattle.gql_ast.specs.declared.fault.FileSide.TheVariants.{Documents}
 use Rattle.gql_ast.specs.declared.files.Files.{Files}
 use Rattle.gql_facts.specs.Facts.{fragments}
 use Rattle.gql_facts.specs.FileFragments.{fragments_in}
-use Rattle.gql_registry.specs.EditPlans.{IsIndexAfterSchema, KeepsFragments}
+use Rattle.gql_registry.specs.EditPlans.{KeepsFragments}
 use Rattle.gql_registry.specs.Indexed.{IsIndexOf as IsOperationIndex}
-use Rattle.gql_registry.specs.Keeping.{IsKnownOf}
+use Rattle.gql_registry.specs.Keeping.{IsIndexOf}
 use Rattle.gql_registry.specs.Sides.{with_file}
-use Rattle.gql_registry.specs.declared.report.Known.{Known}
+use Rattle.gql_registry.specs.declared.index.DocumentIndex.{DocumentIndex}
 use Rattle.gql_registry.proofs.Restored.{absent_below}
 
 -- a file that is put with the fragments of the one in its place, or with none if it is new, changes no
@@ -63,9 +62,9 @@ pub same_fragments : (files : Files) (name : List ℕ) (after : Option Document)
 same_fragments files name None sorted same = removed_same name files.documents same
 same_fragments files name (Some document) sorted same = put_same name document files.documents sorted same
 
--- an edit of a schema file keeps the index that is known
-pub kept_index : (known : Known) → IsIndexAfterSchema (Some known) (Some known.index)
-kept_index known before after is e = record {
-  fragments = is.index.fragments ∙ ap fragments e;
-  operations = subst (λ documents. IsOperationIndex documents known.index.operations) e is.index.operations;
+-- the index of files is that of all files with the same document files
+pub same_index : (before after : Files) (index : DocumentIndex) → before.documents ≡ after.documents → IsIndexOf before index → IsIndexOf after index
+same_index before after index e is = record {
+  fragments = is.fragments ∙ ap fragments e;
+  operations = subst (λ documents. IsOperationIndex documents index.operations) e is.operations;
 }

@@ -1,16 +1,14 @@
 -- The schema of files depends on the schema files alone.
-use Rattle.std.proofs.Common.{◌≡◌, ℕ, List, Option, Some, None, IfSome, subst}
+use Rattle.std.proofs.Common.{◌≡◌, ℕ, List, Option, subst}
 use Rattle.gql_ast.specs.declared.definition.Document.{Document}
 use Rattle.gql_ast.specs.declared.fault.Fault.{Fault}
 use Rattle.gql_ast.specs.declared.files.Files.{Files}
 use Rattle.gql_schema_rules.specs.SchemaFaults.{FaultsBy, by_s01, by_s02, by_s03, by_s04, by_s05, by_s06, by_s07, by_s08, by_s09, by_s10, by_s11, by_s12, by_s13, by_s14, by_s15, by_s16, by_s17, by_s18, by_s19, by_s20, by_s21, by_s22, by_s23, by_s24, by_s25, by_s26, by_s27, by_s28, by_s29, by_s30, by_s31, by_s32, by_s33, by_s34, by_s35, by_s36, by_p01, by_p02}
-use Rattle.gql_registry.specs.EditPlans.{IsSchemaEdit, IsSideAfterDocuments, IsSideBeforeEdit}
+use Rattle.gql_registry.specs.EditPlans.{IsSchemaEdit, IsSideBefore}
 use Rattle.gql_schema_rules.specs.ChecksOfFiles.{DiffersAt}
 use Rattle.gql_types.specs.Outlines.{edited_files}
-use Rattle.gql_types.specs.Schemas.{schema_of}
 use Rattle.gql_types.specs.declared.schema.Schema.{Schema}
-use Rattle.gql_registry.specs.Keeping.{IsKnownOf, IsSideOf}
-use Rattle.gql_registry.specs.declared.report.Known.{Known}
+use Rattle.gql_registry.specs.Keeping.{IsSideOf}
 use Rattle.gql_registry.specs.declared.report.SchemaSide.{SchemaSide}
 
 abbrev pub FileList : Type 0
@@ -123,23 +121,19 @@ same_side files documents side is = record {
   };
 }
 
-same_schema : (before after : Files) (side : SchemaSide) → before.profile ≡ after.profile → before.schema ≡ after.schema → IsSideOf before side → IsSideOf after side
+-- so the schema of files is that of all files with the same schema files under the same profile
+pub same_schema : (before after : Files) (side : SchemaSide) → before.profile ≡ after.profile → before.schema ≡ after.schema → IsSideOf before side → IsSideOf after side
 same_schema before after side p e is =
     subst (λ schema. IsSideOf (record { profile = after.profile; schema = schema; documents = after.documents }) side) e
     (subst (λ profile. IsSideOf (record { profile = profile; schema = before.schema; documents = after.documents }) side) p (same_side before after.documents side is))
 
--- so an edit of a document file keeps the schema that is known
-pub kept_side : (known : Known) → IsSideAfterDocuments (Some known) (Some known.schema)
-kept_side known before after is p e = same_schema before after known.schema p e is.schema
-
--- what is known before an edit has the schema before it
-pub known_before : (names : List (List ℕ)) (name : List ℕ) (document : Option Document) (before after : Files) (known : Option Known) → IfSome known (IsKnownOf before)
+-- the schema of the files before an edit of a schema file
+pub side_before : (names : List (List ℕ)) (name : List ℕ) (document : Option Document) (before after : Files) (side : SchemaSide) → IsSideOf before side
     → IsSchemaEdit names before after → after.schema ≡ edited_files before.schema name document → before.profile ≡ after.profile → DiffersAt name before after
-    → IfSome known (IsSideBeforeEdit names name document after)
-known_before names name document before after None is edit files profile elsewhere = is
-known_before names name document before after (Some known) is edit files profile elsewhere = record {
+    → IsSideBefore names name document after side
+side_before names name document before after side is edit files profile elsewhere = record {
   before = before;
-  side_of = is.schema;
+  side_of = is;
   edit = edit;
   files = files;
   profile = profile;

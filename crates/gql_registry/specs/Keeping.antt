@@ -1,5 +1,5 @@
 -- What is kept with the files: a verdict on each definition of the document files.
-use Rattle.std.specs.Prelude.{◌≡◌, List, [], Option, IfSome, IsTrue}
+use Rattle.std.specs.Prelude.{◌≡◌, List, [], IsTrue}
 use Rattle.gql_ast.specs.declared.fault.Fault.{Fault}
 use Rattle.gql_ast.specs.declared.files.Files.{Files}
 use Rattle.gql_ast.specs.declared.profile.Profile.{Profile}
@@ -124,8 +124,8 @@ pub record IsKnownOf (files : Files) (known : Known) : Type 0 where
 
 -- what is known and the verdicts are those of the files, what is kept of pairs of fragments holds,
 -- and the definitions of the files are in order
-pub record IsKept (files : Files) (o : Option Known) (shelf : Shelved) : Type 0 where
+pub record IsKept (files : Files) (known : Known) (shelf : Shelved) : Type 0 where
   pub placed : AreFilesPlaced files.documents
-  pub known : IfSome o (IsKnownOf files)
+  pub known_of : IsKnownOf files known
   pub current : IsShelfOf files shelf.verdicts
   pub pairs : ArePairsOf files shelf.pairs

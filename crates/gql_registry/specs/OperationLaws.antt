@@ -1,11 +1,10 @@
 -- The order of operations is total, and what is looked for rises along with it.
-use Rattle.std.proofs.Common.{◌≡◌, ◌≤◌, ℕ, List, Option, Some, None, refl, ap, sym, ◌∙◌, arith}
+use Rattle.std.proofs.Common.{◌≡◌, ◌≤◌, ℕ, List, Option, Some, None, refl, arith}
 use Rattle.std.specs.Cmp.{IsTotalOrder}
-use Rattle.std.specs.Ordering.{nat_cmp, ordering_index, ordering_reverse, ordering_then}
+use Rattle.std.specs.Ordering.{ordering_index, ordering_reverse, ordering_then}
 use Rattle.std.specs.declared.cmp.Ordering.{Ordering}
 use Rattle.std.specs.declared.cmp.Ordering.TheVariants.{Less, Equal, Greater}
 use Rattle.std.proofs.lemmas.Cmp.{nat_cmp_total, nat_list_cmp_total, on_total, then_total}
-use Rattle.gql_ast.specs.FileMaps.{name_order}
 use Rattle.gql_chunks.proofs.Splitting.{rises_to}
 use Rattle.gql_registry.specs.OperationOrders.{file_order, operation_order, title_order}
 use Rattle.gql_registry.specs.declared.kept_operation.KeptOperation.{KeptOperation}

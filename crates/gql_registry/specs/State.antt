@@ -1,5 +1,5 @@
 -- What the registry holds.
-use Rattle.std.specs.Prelude.{ℕ, ◌+◌, ◌^◌, ◌-◌, List, []}
+use Rattle.std.specs.Prelude.{ℕ, ◌^◌, ◌-◌, List, []}
 use Rattle.gql_ast.specs.Profiles.{whole_numbers}
 use Rattle.gql_ast.specs.declared.files.Files.{Files}
 use Rattle.gql_ast.specs.declared.profile.Profile.{Profile}
@@ -45,13 +45,17 @@ empty = empty_in whole_numbers
 abbrev pub profile_of : State → Profile
 profile_of s = s.files.profile
 
--- the state after an accepted edit that leaves these files
-abbrev pub next : State → Files → State
-next s files = record s { files = files; revision = s.revision + 1 }
+-- the state with these files in place of its own
+abbrev pub with_files : State → Files → State
+with_files s files = record s { files = files }
 
--- the state after an accepted edit that leaves this data
-abbrev pub next_data : State → Data → State
-next_data s d = record s { stored = d; revision = s.revision + 1 }
+-- the state with this data in place of its own
+abbrev pub with_data : State → Data → State
+with_data s d = record s { stored = d }
+
+-- the state at this revision
+abbrev pub at_revision : ℕ → State → State
+at_revision revision s = record s { revision = revision }
 
 -- the state after a mutation that has these effects: the revision counts edits alone
 abbrev pub with_effects : State → List Effect → State

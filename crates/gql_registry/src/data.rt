@@ -36,7 +36,7 @@ fn is_root(value: &Value, key: &str) -> bool
 }
 
 /// Whether operations can be executed on a value.
-fn is_data(profile: Profile, value: &Value) -> bool
+pub fn is_data(profile: Profile, value: &Value) -> bool
     ensures { result ≡ spec.is_data profile (view value.now) }
 {
     value.is_object()

@@ -1,36 +1,36 @@
 //! What an edit of one file makes, before it is committed.
-ghost use Rattle.std.specs.Prelude.{◌≡◌, ◌↔◌, IfOk, IfSome, IsTrue, OnOk};
+ghost use Rattle.std.specs.Prelude.{◌≡◌, ◌↔◌, IfOk, IsTrue, OnOk};
 ghost use Rattle.std.specs.Option.{option_copied};
 ghost use Rattle.gql_ast.specs.FileMaps.{file_named};
 ghost use Rattle.gql_ast.specs.declared.fault.FileSide.TheVariants as on;
+ghost use Rattle.gql_ast.specs.declared.files.Files.{Files as TheFiles};
 ghost use Rattle.gql_facts.specs.FileFragments.{fragments_in};
-ghost use Rattle.gql_registry.specs.EditPlans.{IsEditPlanTo, IsSchemaEdit, IsSchemaTouched, IsSideAfterDocuments, IsSideBeforeEdit};
-ghost use Rattle.gql_registry.specs.EditPlans.{IsIndexAfterSchema};
-ghost use Rattle.gql_registry.specs.EditPlans.{BringsToKnown, IsToldToKeepNames, KeepsFragments};
+ghost use Rattle.gql_registry.specs.EditPlans.{IsEditPlanOf, IsEditPlanTo, IsSchemaEdit, IsSchemaTouched};
+ghost use Rattle.gql_registry.specs.EditPlans.{IsSideBefore, IsToldToKeepNames, KeepsFragments};
 ghost use Rattle.gql_registry.specs.Keeping.{IsIndexOf, IsKnownOf, IsSideOf};
 ghost use Rattle.gql_registry.specs.Sides as spec;
 ghost use Rattle.gql_types.specs.Edits.{KeepsOthers};
 ghost use Rattle.gql_types.specs.Outlines.{edited_files};
 ghost use Rattle.gql_types.specs.Schemas.{schema_of};
-ghost use Rattle.gql_verdict.specs.DocumentEdits.{ChangesOnly, with_document};
+ghost use Rattle.gql_verdict.specs.DocumentEdits.{ChangesOnly};
+ghost use Rattle.gql_verdict.specs.FileOrder.{AreFilesPlaced};
 ghost use Rattle.gql_verdict.specs.NameViews.{KeepsNamesSound};
 
-use crate::index::{DocumentIndex, index_after_edit};
-use crate::report::{Known, SchemaSide, side_after_edit};
+use crate::index::{DocumentIndex, document_index, index_after_edit};
+use crate::report::{Known, SchemaSide, schema_side, side_after_edit};
 use gql_ast::{Document, FileMap, FileName, FileSide, Files, Shared, Text};
 use gql_facts::have_same_fragments;
 use gql_types::{Named, edited_names, laws as type_laws};
 use gql_verdict::{Touched, brings_new_names, keeps_names, laws};
 use std::alloc::{AllocError, Global};
 
-/// The files that an edit leaves, what it touches, and the schema and the index of the files if they
-/// are known.
+/// The files that an edit leaves, what it touches, and the schema and the index of the files.
 #[derive(Drop)]
 pub struct EditPlan {
     pub files: Files,
     pub touched: Touched,
-    pub schema: Option<Shared<SchemaSide>>,
-    pub index: Option<DocumentIndex>,
+    pub schema: Shared<SchemaSide>,
+    pub index: DocumentIndex,
     /// Whether no rule on names finds a fault after the edit if none finds one before it.
     pub keeps_names: bool,
 }
@@ -132,50 +132,20 @@ fn edit_file(
 }
 
 /// The schema after an edit of the schema file of this name that changed types of these names alone,
-/// if the schema before it is known. `document` is the file that was put, or none if the file was
-/// removed.
+/// by the schema before it. `document` is the file that was put, or none if the file was removed.
 fn edited_schema(
     alloc: Global,
     files: &Files,
-    known: &Option<Known>,
+    before: &SchemaSide,
     name: &FileName,
     document: Option<&Document>,
     edited: &Named<Text>,
-) -> Result<Option<Shared<SchemaSide>>, AllocError>
-    requires { IfSome known.now
-        (IsSideBeforeEdit edited.now name.now (option_copied document) files.now) }
-    ensures { IfOk result (λ schema. IfSome schema (IsSideOf files.now)) }
+) -> Result<Shared<SchemaSide>, AllocError>
+    requires { IsSideBefore edited.now name.now (option_copied document) files.now before.now }
+    ensures { IfOk result (IsSideOf files.now) }
 {
-    let Some(known) = known else {
-        return Ok(None);
-    };
-    let schema = side_after_edit(alloc, files, known.schema.get(), name, document, edited)?;
-    let schema = Shared::new(alloc, schema)?;
-    Ok(Some(schema))
-}
-
-/// The schema that is known. An edit of a document file keeps it.
-#[tactic(auto, using(crate::proofs::SameSchema::kept_side))]
-fn kept_schema(known: &Option<Known>) -> Result<Option<Shared<SchemaSide>>, AllocError>
-    ensures { IfOk result (IsSideAfterDocuments known.now) }
-{
-    let Some(known) = known else {
-        return Ok(None);
-    };
-    let schema = known.schema.clone()?;
-    Ok(Some(schema))
-}
-
-/// The index of the document files that is known. An edit of a schema file keeps it.
-#[tactic(auto, using(crate::proofs::SameFragments::kept_index))]
-fn kept_index(known: &Option<Known>) -> Result<Option<DocumentIndex>, AllocError>
-    ensures { IfOk result (IsIndexAfterSchema known.now) }
-{
-    let Some(known) = known else {
-        return Ok(None);
-    };
-    let index = known.index.copy()?;
-    Ok(Some(index))
+    let schema = side_after_edit(alloc, files, before, name, document, edited)?;
+    Ok(Shared::new(alloc, schema)?)
 }
 
 /// Whether an edit of a document file leaves the fragments of the file as they are, and so all
@@ -199,95 +169,62 @@ fn keeps_fragments(
     }
 }
 
-/// The index of the document files after an edit of the file of a name, if the index before it is
-/// known. `put` is the file that was put, or none if the file was removed. `are_same` says whether all
-/// fragments are as before the edit.
+/// The index of the document files after an edit of the file of a name, by the index before it. `put`
+/// is the file that was put, or none if the file was removed. `are_same` says whether all fragments are
+/// as before the edit.
 fn edited_index(
     alloc: Global,
     before: &Files,
     after: &Files,
-    known: &Option<Known>,
+    index: &DocumentIndex,
     name: &FileName,
     put: Option<&Document>,
     are_same: bool,
-) -> Result<Option<DocumentIndex>, AllocError>
-    requires known { IfSome known.now (IsKnownOf before.now) }
+) -> Result<DocumentIndex, AllocError>
+    requires index { IsIndexOf before.now index.now }
     requires files { after.now.documents
         ≡ edited_files before.now.documents name.now (option_copied put) }
     requires same { IsTrue are_same → KeepsFragments before.now after.now }
-    ensures { IfOk result (λ index. IfSome index (IsIndexOf after.now)) }
+    ensures { IfOk result (IsIndexOf after.now) }
 {
-    let Some(known) = known else {
-        return Ok(None);
-    };
     let old = file_in(&before.documents, name);
-    let index = index_after_edit(alloc, after, &known.index, name, old, put, are_same)?;
-    Ok(Some(index))
+    index_after_edit(alloc, after, index, name, old, put, are_same)
 }
 
-/// What an edit of a schema file touches that changes types of these names alone, by what was known
-/// before it and the schema after it. All, if one of them is not known, or if there are no document
-/// files, so that nothing depends on it.
+/// What an edit of a schema file touches that changes types of these names alone, by the schema before
+/// it and after it. All, if there are no document files, so that nothing depends on it.
 #[tactic(auto, using(crate::proofs::SchemaTouched::all_told, crate::proofs::SchemaTouched::schema_told))]
 fn schema_touched(
     alloc: Global,
     files: &Files,
-    known: &Option<Known>,
-    schema: &Option<Shared<SchemaSide>>,
+    before: &SchemaSide,
+    after: &SchemaSide,
     edited: &Named<Text>,
 ) -> Result<Touched, AllocError>
-    ensures { IfOk result (IsSchemaTouched known.now schema.now edited.now) }
+    ensures { IfOk result (IsSchemaTouched before.now after.now edited.now) }
 {
-    let Some(known) = known else {
-        return Ok(Touched::All);
-    };
-    let Some(schema) = schema else {
-        return Ok(Touched::All);
-    };
     if files.documents.len() == 0 {
         return Ok(Touched::All);
     }
-    let (before, after) = (&known.schema.get().facts, &schema.get().facts);
-    let touched = Touched::by_schema_edit(alloc, before, after, edited)?;
+    let touched = Touched::by_schema_edit(alloc, &before.facts, &after.facts, edited)?;
     Ok(touched)
 }
 
-/// Whether a document file that is put brings only new names, if the files before it are known.
-fn brings_to_known(
-    alloc: Global,
-    files: &Files,
-    known: &Option<Known>,
-    name: &FileName,
-    document: &Document,
-) -> Result<bool, AllocError>
-    requires { IfSome known.now (IsKnownOf files.now) }
-    ensures sound { IfOk result (λ brings. IsTrue brings → KeepsNamesSound files.now
-        (with_document files.now name.now document.now)) }
-    ensures exact { IfOk result (λ brings. IsTrue brings
-        ↔ BringsToKnown known.now files.now.documents name.now document.now) }
-{
-    let Some(known) = known else {
-        return Ok(false);
-    };
-    let (operations, fragments) = (&known.index.operations, &known.index.fragments);
-    let brings = brings_new_names(alloc, files, name, document, operations, fragments)?;
-    Ok(brings)
-}
-
 /// Whether it is told that no rule on names finds a fault after an edit of a document file if none
-/// finds one before it. `after` is the file that is put, or none if the file is removed.
+/// finds one before it. `index` is that of the files before it. `after` is the file that is put, or
+/// none if the file is removed.
 fn edit_keeps_names(
     alloc: Global,
     files: &Files,
-    known: &Option<Known>,
+    index: &DocumentIndex,
     name: &FileName,
     after: Option<&Document>,
 ) -> Result<bool, AllocError>
-    requires { IfSome known.now (IsKnownOf files.now) }
+    requires { IsIndexOf files.now index.now }
     ensures sound { IfOk result (λ keeps. IsTrue keeps → KeepsNamesSound files.now
         (spec.with_file on.Documents files.now name.now (option_copied after.entry))) }
     ensures exact { IfOk result (λ keeps. IsTrue keeps
-        ↔ IsToldToKeepNames known.now files.now.documents name.now (option_copied after.entry)) }
+        ↔ IsToldToKeepNames files.now.documents name.now (option_copied after.entry)) }
 {
     let Some(document) = after else {
         return Ok(false);
@@ -296,7 +233,8 @@ fn edit_keeps_names(
     if keeps {
         return Ok(true);
     }
-    let brings = brings_to_known(alloc, files, known, name, document)?;
+    let (operations, fragments) = (&index.operations, &index.fragments);
+    let brings = brings_new_names(alloc, files, name, document, operations, fragments)?;
     Ok(brings)
 }
 
@@ -304,24 +242,25 @@ fn edit_keeps_names(
 fn schema_plan(
     alloc: Global,
     files: &Files,
-    known: &Option<Known>,
-    name: FileName,
+    known: &Known,
+    name: &FileName,
     document: Option<Document>,
 ) -> Result<EditPlan, AllocError>
-    requires { IfSome known.now (IsKnownOf files.now) }
+    requires { IsKnownOf files.now known.now }
     ensures { IfOk result (IsEditPlanTo files.now
-        (spec.with_file on.Schema files.now name document)) }
+        (spec.with_file on.Schema files.now name.now document)) }
 {
     // The law that such an edit changes only the answers that are told as touched.
     laws::edit_schema();
-    let edited = edited_types(alloc, files, &name, document.as_ref())?;
+    let before = known.schema.get();
+    let edited = edited_types(alloc, files, name, document.as_ref())?;
     let mut changed = files.copy()?;
     let shared = shared_document(alloc, document)?;
-    edit_file(&mut changed.schema, &name, &shared)?;
+    edit_file(&mut changed.schema, name, &shared)?;
     let put = document_in(&shared);
-    let schema = edited_schema(alloc, &changed, known, &name, put, &edited)?;
-    let touched = schema_touched(alloc, files, known, &schema, &edited)?;
-    let index = kept_index(known)?;
+    let schema = edited_schema(alloc, &changed, before, name, put, &edited)?;
+    let touched = schema_touched(alloc, files, before, schema.get(), &edited)?;
+    let index = known.index.copy()?;
     Ok(EditPlan {
         files: changed,
         touched,
@@ -335,23 +274,24 @@ fn schema_plan(
 fn document_plan(
     alloc: Global,
     files: &Files,
-    known: &Option<Known>,
-    name: FileName,
+    known: &Known,
+    name: &FileName,
     document: Option<Document>,
 ) -> Result<EditPlan, AllocError>
-    requires { IfSome known.now (IsKnownOf files.now) }
+    requires { IsKnownOf files.now known.now }
     ensures { IfOk result (IsEditPlanTo files.now
-        (spec.with_file on.Documents files.now name document)) }
+        (spec.with_file on.Documents files.now name.now document)) }
 {
-    let touched = touched_by(alloc, files, &name, document.as_ref())?;
-    let keeps_names = edit_keeps_names(alloc, files, known, &name, document.as_ref())?;
-    let are_same = keeps_fragments(alloc, files, &name, document.as_ref())?;
+    let index = &known.index;
+    let touched = touched_by(alloc, files, name, document.as_ref())?;
+    let keeps_names = edit_keeps_names(alloc, files, index, name, document.as_ref())?;
+    let are_same = keeps_fragments(alloc, files, name, document.as_ref())?;
     let mut changed = files.copy()?;
     let shared = shared_document(alloc, document)?;
-    edit_file(&mut changed.documents, &name, &shared)?;
-    let schema = kept_schema(known)?;
+    edit_file(&mut changed.documents, name, &shared)?;
+    let schema = known.schema.clone()?;
     let after = document_in(&shared);
-    let index = edited_index(alloc, files, &changed, known, &name, after, are_same)?;
+    let index = edited_index(alloc, files, &changed, index, name, after, are_same)?;
     Ok(EditPlan {
         files: changed,
         touched,
@@ -361,18 +301,37 @@ fn document_plan(
     })
 }
 
+/// The plan of an edit that leaves these files, and of which nothing more is known.
+pub fn whole_plan(alloc: Global, files: Files) -> Result<EditPlan, AllocError>
+    requires { AreFilesPlaced files.documents }
+    ensures files { IfOk result (λ plan. plan.files ≡ files) }
+    ensures plan { IfOk result (λ plan. (before : TheFiles) → IsEditPlanOf before plan) }
+{
+    let schema = schema_side(alloc, &files)?;
+    let schema = Shared::new(alloc, schema)?;
+    let index = document_index(alloc, &files)?;
+    Ok(EditPlan {
+        files,
+        touched: Touched::All,
+        schema,
+        index,
+        keeps_names: false,
+    })
+}
+
 /// The plan of an edit of these files, of which this is known: the file of a name on a side is
 /// replaced by this one, or removed if there is none.
 pub fn edit_plan(
     alloc: Global,
     files: &Files,
-    known: &Option<Known>,
+    known: &Known,
     side: FileSide,
-    name: FileName,
+    name: &FileName,
     document: Option<Document>,
 ) -> Result<EditPlan, AllocError>
-    requires { IfSome known.now (IsKnownOf files.now) }
-    ensures { IfOk result (IsEditPlanTo files.now (spec.with_file side files.now name document)) }
+    requires { IsKnownOf files.now known.now }
+    ensures { IfOk result (IsEditPlanTo files.now
+        (spec.with_file side files.now name.now document)) }
 {
     match side {
         FileSide::Schema => schema_plan(alloc, files, known, name, document),

@@ -1,12 +1,12 @@
 //! Files, with a verdict on each definition of the document files.
-ghost use Rattle.std.specs.Prelude.{◌≡◌, ◌↔◌, IfOk, IfSome, IsTrue, OnOk, OnErr};
+ghost use Rattle.std.specs.Prelude.{◌≡◌, ◌↔◌, IfOk, IsTrue, OnOk, OnErr};
 ghost use Rattle.std.specs.Option.{option_copied};
 ghost use Rattle.serde_json.specs.View.{view};
 ghost use Rattle.gql_registry.specs.Calls.{Answers};
 ghost use Rattle.gql_registry.specs.Prepared.{ran_of};
 ghost use Rattle.gql_registry.specs.EditPlans.{IsEditPlanOf, IsEditPlanTo, IsReportLength};
-ghost use Rattle.gql_registry.specs.EditPlans.{KnowsSoundNames};
-ghost use Rattle.gql_registry.specs.Examining.{IsExaminedFor};
+ghost use Rattle.gql_registry.specs.Examining.{AreReadyOver};
+ghost use Rattle.gql_registry.specs.FilesFacts.{AreFilesFacts};
 ghost use Rattle.gql_registry.specs.Keeping.{ArePairsBefore, ArePairsOf, KeepsPairs};
 ghost use Rattle.gql_registry.specs.Keeping.{AreSchemaFaults, IsDefinitionFault, IsPlanFor, IsShelfOf};
 ghost use Rattle.gql_registry.specs.Keeping.{HasPairsDue, IsWholeWorkOn, IsWorkOn};
@@ -21,7 +21,8 @@ ghost use Rattle.gql_verdict.specs.NameViews.{AreNamesSound};
 
 use crate::calling::{Ran, answer_call};
 use crate::edit_plan::{EditPlan, edit_plan};
-use crate::index::{DocumentIndex, document_index};
+use crate::facts::{FilesFacts, facts_in};
+use crate::index::document_index;
 use crate::refusal::Refusal;
 use crate::report::{Known, SchemaSide, known_with, schema_side, sharing};
 use gql_ast::{Document, Fault, FileName, FileSide, Files, Profile, Shared};
@@ -31,12 +32,12 @@ use serde_json::Value;
 use std::alloc::{AllocError, Global};
 use std::marker::Model;
 
-/// The files that are present, what is known of them once there was an edit, the verdicts on their
-/// definitions, and what clashes between their fragments. Contracts see all but what is known.
+/// The files that are present, what is known of them, the verdicts on their definitions, and what
+/// clashes between their fragments. Contracts see all but what is known.
 #[derive(Drop)]
 pub struct Kept {
     files: Files,
-    known: Option<Known>,
+    known: Known,
     shelf: Shelf,
 }
 
@@ -73,58 +74,36 @@ impl Model for Kept {
     ghost invariant = { λ k. IsKept k.files k.known k.shelf };
 }
 
-/// What is known of the files of a plan, and the verdicts that are prepared for them.
+/// The files that an edit leaves, what is known of them, and the verdicts that are prepared for them.
 #[derive(Drop)]
-struct Examined {
+pub struct PreparedFiles {
+    files: Files,
     known: Known,
     verdicts: Prepared,
 }
 
-/// The schema of the files: this one, or if it is not known, one that is put together.
-fn known_side(
-    alloc: Global,
-    schema: &Option<Shared<SchemaSide>>,
-    files: &Files,
-) -> Result<Shared<SchemaSide>, AllocError>
-    requires { IfSome schema.now (IsSideOf files.now) }
-    ensures { IfOk result (IsSideOf files.now) }
-{
-    match schema {
-        Some(schema) => schema.clone(),
-        None => {
-            let side = schema_side(alloc, files)?;
-            let side = Shared::new(alloc, side)?;
-            Ok(side)
-        }
+impl PreparedFiles {
+    ghost use Rattle.gql_registry.specs.EditPlans.{IsReportLength};
+    ghost use Rattle.gql_registry.specs.Keeping.{IsKnownOf};
+
+    /// How many faults the report of the files has.
+    pub fn count(&self) -> u64
+        requires { IsKnownOf self.now.files self.now.known }
+        ensures { IsReportLength self.now.files result }
+    {
+        self.known.report.len() as u64
     }
 }
 
-/// The index of the document files: this one, or if it is not known, one that is made.
-fn known_index(
-    alloc: Global,
-    index: &Option<DocumentIndex>,
-    files: &Files,
-) -> Result<DocumentIndex, AllocError>
-    requires { IfSome index.now (IsIndexOf files.now) }
-    ensures { IfOk result (IsIndexOf files.now) }
-{
-    match index {
-        Some(index) => index.copy(),
-        None => document_index(alloc, files),
-    }
-}
-
-/// Prepares the verdicts for the files of a plan, which have this schema.
+/// Prepares the verdicts for the files of a plan.
 fn verdicts_for(
     alloc: Global,
     shelf: &Shelf,
-    schema: &SchemaSide,
-    index: &DocumentIndex,
     plan: &EditPlan,
     meter: &mut Meter,
 ) -> Result<Prepared, AllocError>
-    requires schema { IsSideOf plan.now.files schema.now }
-    requires index { IsIndexOf plan.now.files index.now }
+    requires schema { IsSideOf plan.now.files plan.now.schema }
+    requires index { IsIndexOf plan.now.files plan.now.index }
     requires placed { AreFilesPlaced plan.now.files.documents }
     requires known { IsKnownBefore plan.now.files shelf.now.verdicts plan.now.touched }
     requires pairs { ArePairsBefore plan.now.files shelf.now.pairs plan.now.touched }
@@ -137,7 +116,7 @@ fn verdicts_for(
     ensures work { OnErr result
         (IsWorkOn plan.now.files shelf.now.verdicts meter.old meter.new) }
 {
-    let mut world = Present::new(&schema.facts, &index.fragments);
+    let mut world = Present::new(&plan.schema.get().facts, &plan.index.fragments);
     let prepared = shelf.prepare(alloc, &mut world, &plan.files, &plan.touched, meter)?;
     Ok(prepared)
 }
@@ -183,28 +162,27 @@ fn present_faults(
     shelf.faults(alloc)
 }
 
-/// What is known of files that are present.
+/// What is known of files that have these verdicts.
 fn known_of(alloc: Global, shelf: &Shelf, files: &Files) -> Result<Known, AllocError>
     requires { IsShelfOf files.now shelf.now.verdicts }
     ensures { IfOk result (IsKnownOf files.now) }
 {
-    let schema = known_side(alloc, &None, files)?;
+    let schema = schema_side(alloc, files)?;
     let index = document_index(alloc, files)?;
-    let faults = present_faults(alloc, shelf, schema.get())?;
+    let faults = present_faults(alloc, shelf, &schema)?;
+    let schema = Shared::new(alloc, schema)?;
     known_with(alloc, files, schema, index, faults, false)
 }
 
 /// Whether it is known that no rule on names finds a fault after an edit: none found one before it, and
 /// the edit keeps that.
-fn keeps_sound_names(known: &Option<Known>, plan: &EditPlan) -> bool
-    ensures sound { IsTrue result → (before : TheFiles) → IfSome known.now (IsKnownOf before)
+fn keeps_sound_names(known: &Known, plan: &EditPlan) -> bool
+    ensures sound { IsTrue result → (before : TheFiles) → IsKnownOf before known.now
         → IsEditPlanOf before plan.now → AreNamesSound plan.now.files }
-    ensures exact { IsTrue result ↔ (KnowsSoundNames known.now × IsTrue plan.now.keeps_names) }
+    ensures exact { IsTrue result
+        ↔ (IsTrue known.now.has_sound_names × IsTrue plan.now.keeps_names) }
 {
-    match known {
-        Some(known) => known.has_sound_names && plan.keeps_names,
-        None => false,
-    }
+    known.has_sound_names && plan.keeps_names
 }
 
 /// Examines the definitions whose verdicts do not hold for the files of a plan, and makes the report
@@ -212,46 +190,48 @@ fn keeps_sound_names(known: &Option<Known>, plan: &EditPlan) -> bool
 fn examine(
     alloc: Global,
     shelf: &Shelf,
-    plan: &EditPlan,
+    plan: EditPlan,
     sound_names: bool,
     meter: &mut Meter,
-) -> Result<Examined, AllocError>
-    requires schema { IfSome plan.now.schema (IsSideOf plan.now.files) }
-    requires index { IfSome plan.now.index (IsIndexOf plan.now.files) }
-    requires placed { AreFilesPlaced plan.now.files.documents }
-    requires known { IsKnownBefore plan.now.files shelf.now.verdicts plan.now.touched }
-    requires pairs { ArePairsBefore plan.now.files shelf.now.pairs plan.now.touched }
-    requires names { IsTrue sound_names → AreNamesSound plan.now.files }
-    ensures examined { IfOk result (IsExaminedFor plan.now.files shelf.now.verdicts) }
-    ensures pairs { IfOk result (λ e.
-        KeepsPairs plan.now.files shelf.now.pairs e.verdicts.pairs) }
-    ensures walked { IfOk result (λ e.
-        HasPairsDue plan.now.files shelf.now.verdicts e.verdicts.pairs) }
+) -> Result<PreparedFiles, AllocError>
+    requires schema { IsSideOf plan.files plan.schema }
+    requires index { IsIndexOf plan.files plan.index }
+    requires placed { AreFilesPlaced plan.files.documents }
+    requires known { IsKnownBefore plan.files shelf.now.verdicts plan.touched }
+    requires pairs { ArePairsBefore plan.files shelf.now.pairs plan.touched }
+    requires names { IsTrue sound_names → AreNamesSound plan.files }
+    ensures files { IfOk result (λ p. p.files ≡ plan.files) }
+    ensures ready { IfOk result (AreReadyOver shelf.now.verdicts shelf.now.pairs) }
     ensures whole { OnOk result
-        (IsWholeWorkOn plan.now.files shelf.now.verdicts meter.old meter.new) }
+        (IsWholeWorkOn plan.files shelf.now.verdicts meter.old meter.new) }
     ensures work { OnErr result
-        (IsWorkOn plan.now.files shelf.now.verdicts meter.old meter.new) }
+        (IsWorkOn plan.files shelf.now.verdicts meter.old meter.new) }
 {
-    let schema = known_side(alloc, &plan.schema, &plan.files)?;
-    let index = known_index(alloc, &plan.index, &plan.files)?;
-    let verdicts = verdicts_for(alloc, shelf, schema.get(), &index, plan, meter)?;
-    let faults = prepared_faults(alloc, shelf, &verdicts, schema.get())?;
-    let files = &plan.files;
-    let known = known_with(alloc, files, schema, index, faults, sound_names)?;
-    Ok(Examined { known, verdicts })
+    let verdicts = verdicts_for(alloc, shelf, &plan, meter)?;
+    let faults = prepared_faults(alloc, shelf, &verdicts, plan.schema.get())?;
+    let files = plan.files;
+    let known = known_with(alloc, &files, plan.schema, plan.index, faults, sound_names)?;
+    Ok(PreparedFiles {
+        files,
+        known,
+        verdicts,
+    })
 }
 
 impl Kept {
     /// No files, under this profile.
-    #[tactic(auto, using(crate::proofs::Knowing::none_kept))]
-    pub fn of(alloc: Global, profile: Profile) -> Kept
-        ensures { result ≡ nothing_kept profile }
+    #[tactic(auto, using(crate::proofs::Knowing::none_current, crate::proofs::Knowing::none_kept))]
+    pub fn of(alloc: Global, profile: Profile) -> Result<Kept, AllocError>
+        ensures { IfOk result (λ k. k ≡ nothing_kept profile) }
     {
-        Kept {
-            files: Files::of(alloc, profile),
-            known: None,
-            shelf: Shelf::new(alloc),
-        }
+        let files = Files::of(alloc, profile);
+        let shelf = Shelf::new(alloc);
+        let known = known_of(alloc, &shelf, &files)?;
+        Ok(Kept {
+            files,
+            known,
+            shelf,
+        })
     }
 
     /// The files.
@@ -277,33 +257,28 @@ impl Kept {
     pub fn report(&self, alloc: Global) -> Result<Vec<Shared<Fault>>, AllocError>
         ensures { IfOk result (λ report. IsReport self.now.files report.items) }
     {
-        if let Some(known) = &self.known {
-            return sharing(alloc, known.report.as_slice());
-        }
-        let known = known_of(alloc, &self.shelf, &self.files)?;
-        sharing(alloc, known.report.as_slice())
+        sharing(alloc, self.known.report.as_slice())
     }
 
     /// Whether the schema of the files has no faults.
-    pub fn is_sound(&self, alloc: Global) -> Result<bool, AllocError>
-        ensures { IfOk result (λ is. IsTrue is ↔ IsSound self.now.files) }
+    pub fn is_sound(&self) -> bool
+        ensures { IsTrue result ↔ IsSound self.now.files }
     {
-        if let Some(known) = &self.known {
-            return Ok(has_none(known.schema.get().faults.as_slice()));
-        }
-        let known = known_of(alloc, &self.shelf, &self.files)?;
-        Ok(has_none(known.schema.get().faults.as_slice()))
+        has_none(self.known.schema.get().faults.as_slice())
+    }
+
+    /// What the rules may ask of the files, which is shared with what is kept.
+    pub fn facts(&self) -> Result<FilesFacts, AllocError>
+        ensures { IfOk result (AreFilesFacts self.now.files) }
+    {
+        facts_in(&self.known)
     }
 
     /// How many faults the report has.
-    pub fn count(&self, alloc: Global) -> Result<u64, AllocError>
-        ensures { IfOk result (IsReportLength self.now.files) }
+    pub fn count(&self) -> u64
+        ensures { IsReportLength self.now.files result }
     {
-        if let Some(known) = &self.known {
-            return Ok(known.report.len() as u64);
-        }
-        let report = self.report(alloc)?;
-        Ok(report.len() as u64)
+        self.known.report.len() as u64
     }
 
     /// Answers a call of the operation of a name, or of the only one, with these values for its
@@ -318,12 +293,14 @@ impl Kept {
         ensures { Answers self.now.files (view stored.now) (option_copied name.entry)
             (view variables.now) (ran_of result) }
     {
-        let profile = self.files.profile;
-        if let Some(known) = &self.known {
-            return answer_call(alloc, profile, known, name, variables, stored);
-        }
-        let known = known_of(alloc, &self.shelf, &self.files)?;
-        answer_call(alloc, profile, &known, name, variables, stored)
+        answer_call(
+            alloc,
+            self.files.profile,
+            &self.known,
+            name,
+            variables,
+            stored,
+        )
     }
 
     /// The plan of an edit that replaces the file of a name on a side by this one, or removes it if
@@ -332,40 +309,48 @@ impl Kept {
         &self,
         alloc: Global,
         side: FileSide,
-        name: FileName,
+        name: &FileName,
         document: Option<Document>,
     ) -> Result<EditPlan, AllocError>
         ensures { IfOk result (IsEditPlanTo self.now.files
-            (spec.with_file side self.now.files name document)) }
+            (spec.with_file side self.now.files name.now document)) }
     {
         edit_plan(alloc, &self.files, &self.known, side, name, document)
     }
 
-    /// Commits a plan: examines what its edit touches, replaces the files that are present by those
-    /// of the plan, and returns how many faults the report then has. If an allocation fails, nothing
-    /// is changed.
-    #[tactic(none)]
-    pub fn commit(
-        &mut self,
+    /// Prepares the files of a plan: examines what its edit touches, and makes their report.
+    pub fn prepare(
+        &self,
         alloc: Global,
         plan: EditPlan,
         meter: &mut Meter,
-    ) -> Result<u64, AllocError>
-        requires { IsEditPlanOf self.old.files plan }
-        ensures files { OnOk result (self.new.files ≡ plan.files) }
-        ensures count { IfOk result (IsReportLength plan.files) }
-        ensures pairs { OnOk result (KeepsPairs plan.files self.old.pairs self.new.pairs) }
-        ensures walked { OnOk result (HasPairsDue plan.files self.old.shelf self.new.pairs) }
-        ensures err { OnErr result (self.new ≡ self.old) }
-        ensures whole { OnOk result (IsWholeWorkOn plan.files self.old.shelf meter.old meter.new) }
-        ensures work { OnErr result (IsWorkOn plan.files self.old.shelf meter.old meter.new) }
+    ) -> Result<PreparedFiles, AllocError>
+        requires { IsEditPlanOf self.now.files plan }
+        ensures files { IfOk result (λ p. p.files ≡ plan.files) }
+        ensures ready { IfOk result (AreReadyOver self.now.shelf self.now.pairs) }
+        ensures whole { OnOk result
+            (IsWholeWorkOn plan.files self.now.shelf meter.old meter.new) }
+        ensures work { OnErr result (IsWorkOn plan.files self.now.shelf meter.old meter.new) }
     {
         let sound_names = keeps_sound_names(&self.known, &plan);
-        let found = examine(alloc, &self.shelf, &plan, sound_names, meter)?;
-        let count = found.known.report.len() as u64;
-        self.shelf.commit(found.verdicts);
-        self.known = Some(found.known);
-        self.files = plan.files;
-        Ok(count)
+        examine(alloc, &self.shelf, plan, sound_names, meter)
+    }
+
+    /// Replaces the files that are present by those that are prepared. This takes no memory.
+    pub fn commit(&mut self, prepared: PreparedFiles)
+        requires { AreReadyOver self.old.shelf self.old.pairs prepared }
+        ensures files { self.new.files ≡ prepared.files }
+        ensures current { IsShelfOf prepared.files self.new.shelf }
+        ensures pairs { KeepsPairs prepared.files self.old.pairs self.new.pairs }
+        ensures walked { HasPairsDue prepared.files self.old.shelf self.new.pairs }
+    {
+        let PreparedFiles {
+            files,
+            known,
+            verdicts,
+        } = prepared;
+        self.shelf.commit(verdicts);
+        self.known = known;
+        self.files = files;
     }
 }

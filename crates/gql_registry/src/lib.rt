@@ -3,8 +3,11 @@
 #![tactic(auto)]
 
 mod calling;
+mod change;
 mod data;
 mod edit_plan;
+mod editing;
+mod facts;
 mod index;
 mod integers;
 mod kept;
@@ -13,6 +16,7 @@ pub mod laws;
 mod loading;
 mod operation_order;
 mod operations;
+mod planning;
 mod present;
 mod reading;
 mod refusal;
@@ -21,7 +25,9 @@ mod report;
 mod runs;
 mod sides;
 
-pub use loading::{GivenPut, PutRefusal};
+pub use change::{Change, EditRefusal};
+pub use editing::PreparedEdit;
+pub use facts::FilesFacts;
 pub use refusal::{Refusal, syntax_message};
 pub use registry::{Edited, Registry};
 pub use runs::{Prepared, Reply};

@@ -1,9 +1,11 @@
 //! What is present in a registry: its profile, its files, the verdicts and the report.
 ghost use Rattle.std.specs.Prelude.{◌≡◌, ◌↔◌, IfOk, IsTrue};
+ghost use Rattle.gql_registry.specs.FilesFacts.{AreFilesFacts};
 ghost use Rattle.gql_registry.specs.Keeping.{ArePairsOf, IsShelfOf};
 ghost use Rattle.gql_registry.specs.Report as spec;
 ghost use Rattle.gql_registry.specs.State.{pairs_of, profile_of, shelf_of, state_of};
 
+use crate::facts::FilesFacts;
 use crate::registry::Registry;
 use crate::report::copies;
 use gql_ast::{Fault, Files, Profile, Shared};
@@ -12,6 +14,7 @@ use std::alloc::AllocError;
 
 impl Registry {
     ghost use Rattle.std.specs.Prelude.{◌≡◌, ◌↔◌, IfOk, IsTrue};
+    ghost use Rattle.gql_registry.specs.FilesFacts.{AreFilesFacts};
     ghost use Rattle.gql_registry.specs.Keeping.{ArePairsOf, IsShelfOf};
     ghost use Rattle.gql_registry.specs.Report as spec;
     ghost use Rattle.gql_registry.specs.State.{pairs_of, profile_of, shelf_of, state_of};
@@ -67,10 +70,18 @@ impl Registry {
         self.kept.report(self.alloc)
     }
 
-    /// Whether the schema of the files that are present has no faults.
-    pub fn is_sound(&self) -> Result<bool, AllocError>
-        ensures { IfOk result (λ is. IsTrue is ↔ spec.IsSound (state_of self.now).files) }
+    /// What the rules may ask of the files that are present: the facts of their schema, and their
+    /// fragments. They are shared with the registry: none is copied.
+    pub fn facts(&self) -> Result<FilesFacts, AllocError>
+        ensures { IfOk result (AreFilesFacts (state_of self.now).files) }
     {
-        self.kept.is_sound(self.alloc)
+        self.kept.facts()
+    }
+
+    /// Whether the schema of the files that are present has no faults.
+    pub fn is_sound(&self) -> bool
+        ensures { IsTrue result ↔ spec.IsSound (state_of self.now).files }
+    {
+        self.kept.is_sound()
     }
 }

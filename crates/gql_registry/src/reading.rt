@@ -1,11 +1,11 @@
 //! Bytes that are put, read as a file of a side or as data.
-ghost use Rattle.std.specs.Prelude.{◌≡◌, ◌||◌, IfErr, IfOk, IsUtf8, is_some, nat_lt, length};
+ghost use Rattle.std.specs.Prelude.{◌≡◌, ◌||◌, true, IfErr, IfOk, IsUtf8, is_some, nat_lt, length};
 ghost use Rattle.gql_ast.specs.FileMaps.{file_named};
-ghost use Rattle.gql_registry.specs.DataBodies.{IsDataText};
-ghost use Rattle.gql_registry.specs.Checks.{IsBadData, IsRead, IsUnread};
+ghost use Rattle.gql_registry.specs.DataBodies.{IsDataText, is_data as is_data_of};
+ghost use Rattle.gql_registry.specs.Checks.{IsBadData, IsBadValue, IsRead, IsUnread};
 ghost use Rattle.serde_json.specs.View.{view};
 
-use crate::data::{DataFault, data_in};
+use crate::data::{DataFault, data_in, is_data};
 use crate::refusal::Refusal;
 use crate::sides::{limit_on, parse_on};
 use gql_ast::{Document, FileMap, FileName, FileSide, Profile, Shared};
@@ -57,4 +57,17 @@ pub fn read_data(alloc: Global, profile: Profile, bytes: &[u8]) -> Result<Value,
         Err(DataFault::Refused) => Err(Refusal::BadData),
         Err(DataFault::Memory) => Err(Refusal::Memory),
     }
+}
+
+/// A copy of a value that is put as data under the profile. The refusal is 207.
+pub fn copy_data(profile: Profile, value: &Value) -> Result<Value, Refusal>
+    ensures copied { IfOk result (λ v. (is_data_of profile (view value.now) ≡ true)
+        × (view v ≡ view value.now)) }
+    ensures err { IfErr result (IsBadValue profile (view value.now)) }
+{
+    if !is_data(profile, value) {
+        return Err(Refusal::BadData);
+    }
+    let data = value.clone()?;
+    Ok(data)
 }

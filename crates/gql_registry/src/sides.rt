@@ -69,3 +69,17 @@ pub fn put_on(
         FileSide::Documents => files.documents.put(name, document),
     }
 }
+
+/// Removes the file of a name from a side, if there is one.
+pub fn remove_on(files: &mut Files, side: FileSide, name: &FileName)
+    ensures { files.new ≡ spec.with_removed side files.old name.now }
+{
+    match side {
+        FileSide::Schema => {
+            files.schema.remove(name);
+        }
+        FileSide::Documents => {
+            files.documents.remove(name);
+        }
+    }
+}

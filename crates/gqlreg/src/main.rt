@@ -17,7 +17,7 @@ use gql_folder_check::{run_check, run_usage};
 use gql_folder_command::{
     FolderCommand, FolderCommandFault, is_folder_command, read_folder_command,
 };
-use gql_http::{Hub, pipe, status_of};
+use gql_http::{Hub, PipeFault, pipe, status_of};
 use gql_registry::Registry;
 use gql_server::{MioNetwork, NetListener, ServeFault, serve_on, serve_together, status_of_serve};
 use gql_wire::DevicePeer;
@@ -37,7 +37,10 @@ fn words(rt: &HostRuntime) -> io::Result<Vec<String>> {
 
 /// Answers the requests of standard input on standard output, by a registry of this profile.
 fn run_pipe(rt: &HostRuntime, profile: Profile) -> u8 {
-    let mut hub = Hub::new(rt.alloc(), Registry::with(rt.alloc(), profile));
+    let Ok(registry) = Registry::with(rt.alloc(), profile) else {
+        return status_of(&Err(PipeFault::Memory));
+    };
+    let mut hub = Hub::new(rt.alloc(), registry);
     let mut peer = DevicePeer::new(rt.stdin(), rt.stdout());
     let status = status_of(&pipe(&mut hub, &mut peer));
     // The process ends, and its memory goes to the system at once: nothing is freed piece by piece.
@@ -116,7 +119,10 @@ fn serve_at_once(
 fn run_serve(rt: &HostRuntime, profile: Profile, port: u16, connections: u32, at_once: u8) -> u8
     requires { at_once ≤ 16 }
 {
-    let mut hub = Hub::new(rt.alloc(), Registry::with(rt.alloc(), profile));
+    let Ok(registry) = Registry::with(rt.alloc(), profile) else {
+        return status_of_serve(&Err(ServeFault::Memory));
+    };
+    let mut hub = Hub::new(rt.alloc(), registry);
     let served = if at_once == 1 {
         serve_in_turn(rt, &mut hub, port, connections)
     } else {

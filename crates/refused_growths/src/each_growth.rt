@@ -25,7 +25,7 @@ struct Whole {
 
 /// The registry after these steps.
 fn registry_after(alloc: Global, steps: &[Step]) -> Option<Registry> {
-    let mut registry = Registry::new(alloc);
+    let mut registry = Registry::new(alloc).ok()?;
     for step in steps {
         let mut meter = Meter::new(alloc);
         if let Err(Refusal::Memory) = step.make(&mut registry, &mut meter) {

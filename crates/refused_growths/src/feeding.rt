@@ -87,7 +87,7 @@ impl Whole {
 impl Feeding<'_> {
     /// The service before the piece, with connection 0 open.
     fn hub(&self) -> Option<Hub> {
-        let mut hub = Hub::new(self.alloc, Registry::new(self.alloc));
+        let mut hub = Hub::new(self.alloc, Registry::new(self.alloc).ok()?);
         hub.open(0).ok()?;
         feed(
             self.alloc,

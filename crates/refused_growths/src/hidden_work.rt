@@ -44,7 +44,7 @@ fn make(alloc: Global, registry: &mut Registry, line: &str) -> Option<String> {
 
 /// Counts the growths of an edit of a registry with an operation A that a line puts.
 fn growths_of(alloc: Global, operation: &str, edit: &str) -> Option<Counted> {
-    let mut registry = Registry::new(alloc);
+    let mut registry = Registry::new(alloc).ok()?;
     make(
         alloc,
         &mut registry,

@@ -20,7 +20,7 @@ pub fn feed(hub: &mut Hub, out: &mut Vec<u8>, piece: &[u8]) -> Option<()> {
 /// What a service on an empty registry answers to a stream that is cut at this place.
 pub fn answered(alloc: Global, bytes: &[u8], place: usize) -> Option<Vec<u8>> {
     let place = place.min(bytes.len());
-    let mut hub = Hub::new(alloc, Registry::new(alloc));
+    let mut hub = Hub::new(alloc, Registry::new(alloc).ok()?);
     hub.open(0).ok()?;
     let mut out = Vec::new(alloc);
     feed(&mut hub, &mut out, &bytes[..place])?;
@@ -30,7 +30,7 @@ pub fn answered(alloc: Global, bytes: &[u8], place: usize) -> Option<Vec<u8>> {
 
 /// What it answers to a stream that comes a byte at a time.
 fn byte_by_byte(alloc: Global, bytes: &[u8]) -> Option<Vec<u8>> {
-    let mut hub = Hub::new(alloc, Registry::new(alloc));
+    let mut hub = Hub::new(alloc, Registry::new(alloc).ok()?);
     hub.open(0).ok()?;
     let mut out = Vec::new(alloc);
     for byte in bytes {

@@ -83,11 +83,11 @@ fn written_edit(alloc: Global, edited: Result<Edited, Refusal>, meter: &Meter) -
 
 impl Editing {
     /// An empty registry.
-    pub fn new(alloc: Global) -> Editing {
-        Editing {
+    pub fn new(alloc: Global) -> Option<Editing> {
+        Some(Editing {
             alloc,
-            registry: Registry::new(alloc),
-        }
+            registry: Registry::new(alloc).ok()?,
+        })
     }
 
     /// Puts the file that `SIDE NAME TEXT` says.
@@ -150,7 +150,7 @@ impl Editing {
         let (word, rest) = step.split_once(" ").unwrap_or((step, ""));
         match word {
             "begin" => {
-                self.registry = Registry::new(self.alloc);
+                self.registry = Registry::new(self.alloc).ok()?;
                 String::from_str(self.alloc, "begun").ok()
             }
             "put" => self.put(rest),

@@ -17,7 +17,7 @@ struct Session {
 impl Session {
     /// A service on an empty registry with this many open connections; `None` if it has fewer.
     fn new(alloc: Global, count: u8) -> Option<Session> {
-        let mut hub = Hub::new(alloc, Registry::new(alloc));
+        let mut hub = Hub::new(alloc, Registry::new(alloc).ok()?);
         let mut answers = Vec::new(alloc);
         for connection in 0..count {
             hub.open(connection).ok()?;

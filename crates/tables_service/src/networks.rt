@@ -164,6 +164,6 @@ pub fn network_answer(alloc: Global, text: &str) -> Option<String> {
     let arrivals = arrivals_in(alloc, script.get("arrivals")?)?;
     let waits = waits_in(alloc, script.get("waits")?)?;
     let mut network = MemNetwork::new(alloc, arrivals.as_slice(), waits.as_slice());
-    let mut hub = Hub::new(alloc, Registry::new(alloc));
+    let mut hub = Hub::new(alloc, Registry::new(alloc).ok()?);
     served_on(alloc, &mut network, &mut hub, connections, at_once)
 }

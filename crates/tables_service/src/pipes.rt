@@ -14,7 +14,7 @@ fn piped(alloc: Global, peer: &mut MemPeer<'_>) -> Option<(Result<PipeEnd, PipeF
     if peer.read_failures > 0 || peer.write_failures > 0 {
         return None;
     }
-    let mut hub = Hub::new(alloc, Registry::new(alloc));
+    let mut hub = Hub::new(alloc, Registry::new(alloc).ok()?);
     let ended = pipe(&mut hub, peer);
     Some((ended, hub))
 }

@@ -47,25 +47,47 @@ fn stream_answer(alloc: Global, text: &str, word: &str, rest: &str) -> Option<St
 #[derive(Drop)]
 pub struct ServiceRow {
     alloc: Global,
-    files: RowFiles,
-    /// The service that `hub` lines are about.
-    transcript: Transcript,
-    /// The registry that `edit`, `on` and `run` lines are about.
-    editing: Editing,
+    /// The files of the row, once it is asked of them.
+    files: Option<RowFiles>,
+    /// The service that `hub` lines are about, once there is one.
+    transcript: Option<Transcript>,
+    /// The registry that `edit`, `on` and `run` lines are about, once there is one.
+    editing: Option<Editing>,
 }
 
 impl ServiceRow {
+    fn files(&mut self) -> Option<&mut RowFiles> {
+        if self.files.is_none() {
+            self.files = Some(RowFiles::new(self.alloc)?);
+        }
+        self.files.as_mut()
+    }
+
+    fn transcript(&mut self) -> Option<&mut Transcript> {
+        if self.transcript.is_none() {
+            self.transcript = Some(Transcript::new(self.alloc)?);
+        }
+        self.transcript.as_mut()
+    }
+
+    fn editing(&mut self) -> Option<&mut Editing> {
+        if self.editing.is_none() {
+            self.editing = Some(Editing::new(self.alloc)?);
+        }
+        self.editing.as_mut()
+    }
+
     fn some_answer(&mut self, rt: &HostRuntime, given: &Given, question: &str) -> Option<String> {
         let (word, rest) = question.split_once(" ").unwrap_or((question, ""));
         match word {
-            "report" | "runs" if rest.is_empty() => self.files.answer(given, word),
+            "report" | "runs" if rest.is_empty() => self.files()?.answer(given, word),
             "report" => {
                 let profile = profile_named(rest)?;
-                RowFiles::under(self.alloc, profile).answer(given, word)
+                RowFiles::under(self.alloc, profile)?.answer(given, word)
             }
-            "edit" => self.editing.step(rest),
-            "hub" => self.transcript.step(rest),
-            "on" | "run" | "many" => self.editing.run_step(question),
+            "edit" => self.editing()?.step(rest),
+            "hub" => self.transcript()?.step(rest),
+            "on" | "run" | "many" => self.editing()?.run_step(question),
             _ => {
                 let stream = stream_of(self.alloc, given.texts.as_slice())?;
                 if word == "serves" {
@@ -81,9 +103,9 @@ impl Row for ServiceRow {
     fn new(alloc: Global) -> ServiceRow {
         ServiceRow {
             alloc,
-            files: RowFiles::new(alloc),
-            transcript: Transcript::new(alloc),
-            editing: Editing::new(alloc),
+            files: None,
+            transcript: None,
+            editing: None,
         }
     }
 

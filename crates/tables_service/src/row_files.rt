@@ -30,17 +30,17 @@ pub fn parser_answer(alloc: Global, parser: &str, text: &str) -> Option<String> 
 
 impl RowFiles {
     /// Without files.
-    pub fn new(alloc: Global) -> RowFiles {
+    pub fn new(alloc: Global) -> Option<RowFiles> {
         RowFiles::under(alloc, Profile::whole_numbers())
     }
 
     /// Without files, under this profile.
-    pub fn under(alloc: Global, profile: Profile) -> RowFiles {
-        RowFiles {
+    pub fn under(alloc: Global, profile: Profile) -> Option<RowFiles> {
+        Some(RowFiles {
             alloc,
-            registry: Registry::with(alloc, profile),
+            registry: Registry::with(alloc, profile).ok()?,
             is_put: false,
-        }
+        })
     }
 
     /// Puts schema files; `None` if the registry refuses one.

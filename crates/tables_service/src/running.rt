@@ -66,7 +66,7 @@ fn put(alloc: Global, registry: &mut Registry, rest: &str) -> Option<String> {
     let mut meter = Meter::new(alloc);
     let edited = match word {
         "schema" => {
-            *registry = Registry::new(alloc);
+            *registry = Registry::new(alloc).ok()?;
             registry.put_schema(file_name(alloc, "s")?, text.as_bytes(), None, &mut meter)
         }
         "document" => {

@@ -47,7 +47,7 @@ fn serve_at_once(rt: &HostRuntime, hub: &mut Hub, bytes: &[u8]) -> Option<TcpStr
 /// it, each answer on a line as a transcript writes it.
 pub fn serves_answer(rt: &HostRuntime, text: &str, together: bool) -> Option<String> {
     let bytes = bytes_in(rt.alloc(), text)?;
-    let mut hub = Hub::new(rt.alloc(), Registry::new(rt.alloc()));
+    let mut hub = Hub::new(rt.alloc(), Registry::new(rt.alloc()).ok()?);
     let mut client = if together {
         serve_at_once(rt, &mut hub, bytes.as_slice())?
     } else {

@@ -33,11 +33,12 @@ pub struct Transcript {
 
 impl Transcript {
     /// A service on an empty registry, with every connection closed.
-    pub fn new(alloc: Global) -> Transcript {
-        Transcript {
+    pub fn new(alloc: Global) -> Option<Transcript> {
+        let registry = Registry::new(alloc).ok()?;
+        Some(Transcript {
             alloc,
-            hub: Hub::new(alloc, Registry::new(alloc)),
-        }
+            hub: Hub::new(alloc, registry),
+        })
     }
 
     fn open(&mut self, connection: u8) -> &'static str {
@@ -108,6 +109,7 @@ impl Transcript {
             "" => Registry::new(self.alloc),
             _ => Registry::with(self.alloc, profile_named(profile)?),
         };
+        let registry = registry.ok()?;
         self.hub = Hub::new(self.alloc, registry);
         String::from_str(self.alloc, "begun").ok()
     }
@@ -128,7 +130,7 @@ impl Transcript {
 /// What steps on a new service give, with commas between them. No step is a `feed` or a `request`,
 /// which may have commas.
 pub fn connections_answer(alloc: Global, steps: &str) -> Option<String> {
-    let mut transcript = Transcript::new(alloc);
+    let mut transcript = Transcript::new(alloc)?;
     let mut written = String::new(alloc);
     for step in steps.split(", ") {
         let answer = transcript.step(step)?;

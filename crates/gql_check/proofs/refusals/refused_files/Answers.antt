@@ -2,13 +2,13 @@ use Rattle.std.proofs.Common.{◌≡◌, ◌∙◌, [], ◌∷◌, ◌++◌, ap,
 use Rattle.gql_check.specs.Faults.{AreRefused}
 use Rattle.gql_check.proofs.Lists.{differ, found_at}
 use Rattle.gql_check.proofs.Refused.{refused_first}
-use Rattle.gql_registry.specs.Loading.{edits_of}
+use Rattle.gql_registry.specs.Changes.{edit_of}
 use Rattle.gql_check.proofs.refusals.refused_files.Goals as goal
 use Rattle.gql_check.proofs.refusals.refused_files.Goals.{in-Memory, in_default-matches}
 
 pub loop-at-init : goal.loop-at-init
 loop-at-init c =
-    let edits = edits_of c.args.puts.now.puts.items in
+    let edits = edit_of c.args.puts.now.puts.items in
     let indices = c.args.puts.now.indices.items in
     let first = c.args.first.now in
     let fault = c.file_fault.result in
@@ -17,6 +17,6 @@ loop-at-init c =
     subst (AreRefused c.args.profile edits indices _) (sym one)
     (elim c.match-matches.branch [
       | in-Memory w ↦ differ c.match-matches.matches w.matches-is c.if-matches.false
-      | in_default-matches w ↦ refused_first c.args.profile edits indices first.at c.in-Some.file.now first.refusal fault w.in_default-matches.not-Memory c.requires
+      | in_default-matches w ↦ refused_first c.args.profile edits indices c.in-Some.file.now first fault w.in_default-matches.not-Memory c.requires
           (found_at indices c.deref.result.now first.at c.in-Some.file.now c.deref.ensures.value lookup.3.0 lookup.1) c.file_fault.ensures
     ])

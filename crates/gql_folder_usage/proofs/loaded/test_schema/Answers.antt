@@ -1,4 +1,4 @@
 use Rattle.gql_folder_usage.proofs.loaded.test_schema.Goals as goal
 
-pub returns-then-branch : goal.returns-then-branch
-returns-then-branch c = c.in_ok-is_sound.ensures.0 c.if-branch.true
+pub returns-then-is_sound : goal.returns-then-is_sound
+returns-then-is_sound c = c.is_sound.ensures.0 c.if-is_sound.true

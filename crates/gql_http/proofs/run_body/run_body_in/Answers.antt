@@ -1,4 +1,4 @@
-use Rattle.std.proofs.Common.{◌≡◌, rules, sym, subst, ap, Some, None, ◌∙◌, true, false}
+use Rattle.std.proofs.Common.{◌≡◌, subst, Some, None, true, false}
 use Rattle.serde_json.specs.Read.{read}
 use Rattle.serde_json.specs.View.{view}
 use Rattle.gql_http.specs.RunBodies as spec

@@ -1,4 +1,4 @@
-use Rattle.std.proofs.Common.{◌≡◌, [], Result, Ok, Err, refl, subst}
+use Rattle.std.proofs.Common.{[], Result, Ok, Err, refl, subst}
 use Rattle.std.specs.Prelude.{OnOk}
 use Rattle.gql_http.specs.ReadBodies.{name_of}
 use Rattle.gql_registry.specs.Calls.{Answers, effects_in}

@@ -1,7 +1,4 @@
-use Rattle.std.proofs.Common.{sym, subst}
-use Rattle.gql_registry.specs.Keeping.{IsSideOf}
 use Rattle.gql_registry.proofs.kept.known_of.Goals as goal
 
 pub known_with-requires-clause-faults : goal.known_with-requires-clause-faults
-known_with-requires-clause-faults c = c.in_ok-faults.ensures c.args.files.now c.requires
-    (subst (IsSideOf c.args.files.now) (sym c.get.ensures) c.in_ok-schema.ensures)
+known_with-requires-clause-faults c = c.in_ok-faults.ensures c.args.files.now c.requires c.in_ok-schema.ensures

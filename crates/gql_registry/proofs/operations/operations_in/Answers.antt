@@ -1,4 +1,4 @@
-use Rattle.std.proofs.Common.{◌≡◌, ◌+◌, ◌∙◌, ℕ, ap, arith, get_or, subst, suc, sym, take}
+use Rattle.std.proofs.Common.{◌≡◌, ◌+◌, ◌∙◌, ℕ, ap, arith, subst, suc, take}
 use Rattle.std.proofs.lemmas.List.{take_all}
 use Rattle.gql_registry.specs.Indexed.{HaveSame, IsWith, kept_as, kept_from}
 use Rattle.gql_registry.proofs.KeptOperations.{added_next, below_taken}

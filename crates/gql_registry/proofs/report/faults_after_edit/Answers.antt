@@ -1,4 +1,4 @@
-use Rattle.std.proofs.Common.{◌∙◌, rules, sym, subst}
+use Rattle.std.proofs.Common.{rules, sym, subst}
 use Rattle.gql_node_rules.specs.SchemaChanges.{IsChange}
 use Rattle.gql_types.specs.Edits.{KeepsOthers}
 use Rattle.gql_types.specs.Schemas.{schema_of}

@@ -1,5 +1,4 @@
-use Rattle.std.proofs.Common.{◌≡◌, ◌∙◌, rules, ap, sym, subst}
-use Rattle.gql_ast.specs.declared.files.Files.{Files}
+use Rattle.std.proofs.Common.{◌∙◌, rules, ap, sym, subst}
 use Rattle.gql_intro.specs.Made.{made_of}
 use Rattle.gql_registry.specs.Keeping.{AreSchemaFaults}
 use Rattle.gql_registry.proofs.report.side_of.Goals as goal

@@ -3,9 +3,7 @@ use Rattle.std.specs.Map.{keys_of}
 use Rattle.std.specs.List.Sorted.{IsStrictlySortedBy}
 use Rattle.gql_ast.specs.FileMaps.{name_order}
 use Rattle.gql_ast.specs.declared.definition.Document.{Document}
-use Rattle.gql_chunks.proofs.Members.{pairs_none}
 use Rattle.gql_chunks.specs.Edits.{IsEdited}
-use Rattle.gql_chunks.specs.Lists.{AreInOrder}
 use Rattle.gql_registry.specs.Indexed.{AreOperationsIn, HaveSame, kept_operations}
 use Rattle.gql_registry.specs.OperationOrders.{operation_order}
 use Rattle.gql_registry.specs.declared.kept_operation.KeptOperation.{KeptOperation}

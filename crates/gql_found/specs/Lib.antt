@@ -1,0 +1,10 @@
+pub mod Affected
+pub mod EditChecks
+pub mod Examples
+pub mod Findings
+pub mod Found
+pub mod Homes
+pub mod Owners
+pub mod RegistryFiles
+pub mod Spots
+pub mod Steps
